@@ -1,0 +1,281 @@
+-- Laws of specs/Fold.antt: tests, folds over indices, tabulated lists. Assumes nothing.
+use Prim.Native.Nat.{ℕ, zero, suc, _+_, _-_, _≤_, _<_}
+use mathlib.Core.Path.{_≡_, refl, sym, _∙_, ap}
+use mathlib.Core.Bool.{Bool, true, false, not, cond, true≢false, false≢true}
+use mathlib.Core.Logic.{_⊎_, inl, inr, ⊎-elim}
+use mathlib.Core.List.{List, [], _∷_, _++_, List·Memᴰ, List·Memᴰ·head, List·Memᴰ·tail, List·Memᴰ·cases-cons, List·Memᴰ·not-nil}
+use native.Mathlib.Omega.{arith}
+use native.Mathlib.Nat.{eq-or-lt-of-le, le-of-suc-le-suc}
+use native.Mathlib.Numerals.{add-one}
+use lib.Dec.{ltb}
+use lib.ListN.{length, getD, List·getD-eq-default}
+use lib.Seq.{ext-getD}
+use borrow.Author.Tests.{ltb-true, ltb-false}
+use Rattle.theory.specs.Fold.{both, either, allBelow, anyBelow, firstNot, anyOf, tabulate}
+
+-- a test passes or fails
+pub bool : (b : Bool) → (b ≡ true) ⊎ (b ≡ false)
+bool true = inl refl
+bool false = inr refl
+
+pub not-both : {b : Bool} → b ≡ true → b ≡ false → ⊥
+not-both p q = true≢false (sym p ∙ q)
+
+-- two tests with the same truth are the same
+pub same-test : (a b : Bool) → (a ≡ true → b ≡ true) → (b ≡ true → a ≡ true) → a ≡ b
+same-test true b f g = sym (f refl)
+same-test false true f g = g refl
+same-test false false f g = refl
+
+pub both-true : (a b : Bool) → a ≡ true → b ≡ true → both a b ≡ true
+unfolding both
+both-true a b p q = rw p q
+
+pub both-left : (a b : Bool) → both a b ≡ true → a ≡ true
+unfolding both
+both-left true b e = refl
+both-left false b e = e
+
+pub both-right : (a b : Bool) → both a b ≡ true → b ≡ true
+unfolding both
+both-right true b e = e
+both-right false b e = absurd (false≢true e)
+
+pub both-false : (a b : Bool) → b ≡ false → both a b ≡ false
+unfolding both
+both-false true b e = e
+both-false false b e = refl
+
+pub either-left : (a b : Bool) → a ≡ true → either a b ≡ true
+unfolding either
+either-left a b p = rw p
+
+pub either-right : (a b : Bool) → b ≡ true → either a b ≡ true
+unfolding either
+either-right true b p = refl
+either-right false b p = p
+
+pub either-cases : (a b : Bool) → either a b ≡ true → (a ≡ true) ⊎ (b ≡ true)
+unfolding either
+either-cases true b e = inl refl
+either-cases false b e = inr e
+
+pub either-none : (a b : Bool) → a ≡ false → b ≡ false → either a b ≡ false
+unfolding either
+either-none a b p q = rw p q
+
+pub either-none-left : (a b : Bool) → either a b ≡ false → a ≡ false
+unfolding either
+either-none-left true b e = e
+either-none-left false b e = refl
+
+pub either-none-right : (a b : Bool) → either a b ≡ false → b ≡ false
+unfolding either
+either-none-right true b e = absurd (true≢false e)
+either-none-right false b e = e
+
+-- every index below n
+
+pub all-none : (p : ℕ → Bool) → allBelow p 0 ≡ true
+unfolding allBelow
+all-none p = refl
+
+pub all-suc : (p : ℕ → Bool) (n : ℕ) → allBelow p (suc n) ≡ both (allBelow p n) (p n)
+unfolding allBelow
+all-suc p n = refl
+
+-- an index below n + 1 is below n or is n
+pub below-cases : {i n : ℕ} → i < suc n → (i < n) ⊎ (i ≡ n)
+below-cases h = ⊎-elim (λ q. inr q) (λ l. inl l) (eq-or-lt-of-le (le-of-suc-le-suc h))
+
+pub below? : (m n : ℕ) → (m < n) ⊎ (n ≤ m)
+below? m n = ⊎-elim (λ e. inl (ltb-true m n e)) (λ e. inr (ltb-false m n e)) (bool (ltb m n))
+
+pub all-at : (p : ℕ → Bool) (n : ℕ) → allBelow p n ≡ true → (i : ℕ) → i < n → p i ≡ true
+all-at p zero e i h = absurd (omega arith)
+all-at p (suc n) e i h =
+    let b = rw (all-suc p n) at e in
+    ⊎-elim
+    (λ (l : i < n). all-at p n (both-left _ _ b) i l)
+    (λ (q : i ≡ n). rw q (both-right _ _ b))
+    (below-cases h)
+
+pub all-below : (p : ℕ → Bool) (n : ℕ) → ((i : ℕ) → i < n → p i ≡ true) → allBelow p n ≡ true
+all-below p zero f = all-none p
+all-below p (suc n) f = rw (all-suc p n) (both-true _ _ (all-below p n (λ i h. f i (omega arith))) (f n (omega arith)))
+
+pub all-fails : (p : ℕ → Bool) (i n : ℕ) → i < n → p i ≡ false → allBelow p n ≡ false
+all-fails p i n h e =
+    ⊎-elim (λ (t : allBelow p n ≡ true). absurd (not-both (all-at p n t i h) e)) (λ f. f) (bool (allBelow p n))
+
+-- one index more, as a loop's next turn finds it: r is the test's result at i, and it passed
+pub all-again : (p : ℕ → Bool) (i : ℕ) {r : Bool} → allBelow p i ≡ true → r ≡ p i → r ≡ true → allBelow p (i + 1) ≡ true
+all-again p i e q t = rw (add-one i, all-suc p i) (both-true _ _ e (sym q ∙ t))
+
+-- the loop is over
+pub all-done : (p : ℕ → Bool) {k n : ℕ} → k ≤ n → n ≤ k → allBelow p k ≡ true → allBelow p n ≡ true
+all-done p {k} {n} l g e = let q : n ≡ k = omega arith in rw q e
+
+pub all-same : (p q : ℕ → Bool) (n : ℕ) → ((i : ℕ) → i < n → p i ≡ q i) → allBelow p n ≡ allBelow q n
+all-same p q zero f = all-none p ∙ sym (all-none q)
+all-same p q (suc n) f =
+    rw (all-suc p n, all-suc q n, all-same p q n (λ i h. f i (omega arith)), f n (omega arith))
+
+-- the least index that fails
+
+pub first-suc : (p : ℕ → Bool) (n : ℕ) → firstNot p (suc n) ≡ cond (allBelow p n) n (firstNot p n)
+unfolding firstNot
+first-suc p n = refl
+
+-- it is below the bound, fails, and all before it pass
+pub record First (p : ℕ → Bool) (n i : ℕ) : Type 0 where
+  pub below : i < n
+  pub fails : p i ≡ false
+  pub before : (j : ℕ) → j < i → p j ≡ true
+
+first-last : (p : ℕ → Bool) (n : ℕ) → allBelow p (suc n) ≡ false → allBelow p n ≡ true → First p (suc n) (firstNot p (suc n))
+unfolding both
+first-last p n e t =
+    rw (first-suc p n, t)
+    (record { below = omega arith; fails = rw (all-suc p n, t) at e; before = all-at p n t })
+
+first-earlier : (p : ℕ → Bool) (n : ℕ) → allBelow p n ≡ false → First p n (firstNot p n) → First p (suc n) (firstNot p (suc n))
+first-earlier p n f r = rw (first-suc p n, f) (record { below = omega arith; fails = r .fails; before = r .before })
+
+pub first : (p : ℕ → Bool) (n : ℕ) → allBelow p n ≡ false → First p n (firstNot p n)
+first p zero e = absurd (not-both (all-none p) e)
+first p (suc n) e =
+    ⊎-elim (λ t. first-last p n e t) (λ f. first-earlier p n f (first p n f)) (bool (allBelow p n))
+
+-- two least failing indices of one test are the same
+pub first-unique : (p : ℕ → Bool) {n m i j : ℕ} → First p n i → First p m j → i ≡ j
+first-unique p {n} {m} {i} {j} a b =
+    ⊎-elim
+    (λ (l : i < j). absurd (not-both (b .before i l) (a .fails)))
+    (λ (g : j ≤ i).
+    ⊎-elim (λ (l : j < i). absurd (not-both (a .before j l) (b .fails))) (λ (h : i ≤ j). omega arith) (below? j i))
+    (below? i j)
+
+-- some index below n
+
+pub any-none : (p : ℕ → Bool) → anyBelow p 0 ≡ false
+unfolding anyBelow
+any-none p = refl
+
+pub any-suc : (p : ℕ → Bool) (n : ℕ) → anyBelow p (suc n) ≡ either (anyBelow p n) (p n)
+unfolding anyBelow
+any-suc p n = refl
+
+pub any-holds : (p : ℕ → Bool) (i n : ℕ) → i < n → p i ≡ true → anyBelow p n ≡ true
+any-holds p i zero h e = absurd (omega arith)
+any-holds p i (suc n) h e =
+    rw (any-suc p n)
+    (⊎-elim
+    (λ (l : i < n). either-left _ _ (any-holds p i n l e))
+    (λ (q : i ≡ n). either-right _ _ (rw q at e))
+    (below-cases h))
+
+pub any-some : (p : ℕ → Bool) (n : ℕ) → anyBelow p n ≡ true → (i : ℕ) × (i < n) × (p i ≡ true)
+any-some p zero e = absurd (not-both e (any-none p))
+any-some p (suc n) e =
+    ⊎-elim
+    (λ (t : anyBelow p n ≡ true). let r = any-some p n t in (r .0, omega arith, r .2))
+    (λ (t : p n ≡ true). (n, omega arith, t))
+    (either-cases _ _ (rw (any-suc p n) at e))
+
+pub any-fails : (p : ℕ → Bool) (n : ℕ) → ((i : ℕ) → i < n → p i ≡ false) → anyBelow p n ≡ false
+any-fails p n f =
+    ⊎-elim
+    (λ (t : anyBelow p n ≡ true). let r = any-some p n t in absurd (not-both (r .2) (f (r .0) (r .1))))
+    (λ e. e)
+    (bool (anyBelow p n))
+
+pub any-below-none : (p : ℕ → Bool) (n : ℕ) → anyBelow p n ≡ false → (i : ℕ) → i < n → p i ≡ false
+any-below-none p n e i h =
+    ⊎-elim (λ (t : p i ≡ true). absurd (not-both (any-holds p i n h t) e)) (λ f. f) (bool (p i))
+
+-- one index more of a search that has found nothing
+pub any-again : (p : ℕ → Bool) (i : ℕ) {r : Bool} → anyBelow p i ≡ false → r ≡ p i → r ≡ false → anyBelow p (i + 1) ≡ false
+any-again p i e q t = rw (add-one i, any-suc p i) (either-none _ _ e (sym q ∙ t))
+
+pub any-done : (p : ℕ → Bool) {k n : ℕ} → k ≤ n → n ≤ k → anyBelow p k ≡ false → anyBelow p n ≡ false
+any-done p {k} {n} l g e = let q : n ≡ k = omega arith in rw q e
+
+pub any-same : (p q : ℕ → Bool) (n : ℕ) → ((i : ℕ) → i < n → p i ≡ q i) → anyBelow p n ≡ anyBelow q n
+any-same p q zero f = any-none p ∙ sym (any-none q)
+any-same p q (suc n) f =
+    rw (any-suc p n, any-suc q n, any-same p q n (λ i h. f i (omega arith)), f n (omega arith))
+
+-- some element of a list
+
+module _ {A : Type 0} (p : A → Bool) where
+  pub any-of-nil : anyOf p [] ≡ false
+  unfolding anyOf
+  any-of-nil = refl
+
+  pub any-of-cons : (x : A) (xs : List A) → anyOf p (x ∷ xs) ≡ either (p x) (anyOf p xs)
+  unfolding anyOf
+  any-of-cons x xs = refl
+
+  pub any-of-holds : {x : A} {xs : List A} → List·Memᴰ x xs → p x ≡ true → anyOf p xs ≡ true
+  any-of-holds {x} {xs = []} m e = absurd (List·Memᴰ·not-nil m)
+  any-of-holds {x} {xs = y ∷ ys} m e =
+      rw (any-of-cons y ys)
+      (⊎-elim
+      (λ (q : x ≡ y). either-left _ _ (rw q at e))
+      (λ (n : List·Memᴰ x ys). either-right _ _ (any-of-holds n e))
+      (List·Memᴰ·cases-cons m))
+
+  pub any-of-none : {x : A} {xs : List A} → List·Memᴰ x xs → anyOf p xs ≡ false → p x ≡ false
+  any-of-none {x} {xs} m e =
+      ⊎-elim (λ (t : p x ≡ true). absurd (not-both (any-of-holds m t) e)) (λ f. f) (bool (p x))
+
+  pub any-of-fails : (xs : List A) → ((x : A) → List·Memᴰ x xs → p x ≡ false) → anyOf p xs ≡ false
+  any-of-fails [] f = any-of-nil
+  any-of-fails (y ∷ ys) f =
+      rw (any-of-cons y ys) (either-none _ _ (f y (List·Memᴰ·head refl)) (any-of-fails ys (λ x m. f x (List·Memᴰ·tail m))))
+
+  pub any-of-some : (xs : List A) → anyOf p xs ≡ true → (x : A) × List·Memᴰ x xs × (p x ≡ true)
+  any-of-some [] e = absurd (not-both e any-of-nil)
+  any-of-some (y ∷ ys) e =
+      ⊎-elim
+      (λ (t : p y ≡ true). (y, (List·Memᴰ·head refl), t))
+      (λ (t : anyOf p ys ≡ true). let r = any-of-some ys t in (r .0, List·Memᴰ·tail (r .1), r .2))
+      (either-cases _ _ (rw (any-of-cons y ys) at e))
+
+-- tabulated lists
+
+module _ {A : Type 0} where
+  pub tabulate-zero : (f : ℕ → A) (i : ℕ) → tabulate f i 0 ≡ []
+  unfolding tabulate
+  tabulate-zero f i = refl
+
+  pub tabulate-suc : (f : ℕ → A) (i n : ℕ) → tabulate f i (suc n) ≡ f i ∷ tabulate f (suc i) n
+  unfolding tabulate
+  tabulate-suc f i n = refl
+
+  pub length-tabulate : (f : ℕ → A) (i n : ℕ) → length (tabulate f i n) ≡ n
+  unfolding tabulate
+  length-tabulate f i zero = refl
+  length-tabulate f i (suc n) = ap suc (length-tabulate f (suc i) n)
+
+  pub getD-tabulate-from : (f : ℕ → A) (i n k : ℕ) (a : A) → k < n → getD (tabulate f i n) k a ≡ f (i + k)
+  unfolding tabulate
+  getD-tabulate-from f i zero k a h = absurd (omega arith)
+  getD-tabulate-from f i (suc n) zero a h = let q : i ≡ i + 0 = omega arith in ap f q
+  getD-tabulate-from f i (suc n) (suc k) a h =
+      let q : suc i + k ≡ i + suc k = omega arith in
+      getD-tabulate-from f (suc i) n k a (omega arith) ∙ ap f q
+
+  pub getD-tabulate : (f : ℕ → A) (n k : ℕ) (a : A) → k < n → getD (tabulate f 0 n) k a ≡ f k
+  getD-tabulate f n k a h = let q : 0 + k ≡ k = omega arith in getD-tabulate-from f 0 n k a h ∙ ap f q
+
+  pub getD-tabulate-out : (f : ℕ → A) (n k : ℕ) (a : A) → n ≤ k → getD (tabulate f 0 n) k a ≡ a
+  getD-tabulate-out f n k a h = List·getD-eq-default (tabulate f 0 n) a (rw (length-tabulate f 0 n) h)
+
+  pub tabulate-same : (f g : ℕ → A) (a : A) (n : ℕ) → ((k : ℕ) → k < n → f k ≡ g k) → tabulate f 0 n ≡ tabulate g 0 n
+  tabulate-same f g a n h =
+      ext-getD a _ _ (length-tabulate f 0 n ∙ sym (length-tabulate g 0 n))
+      (λ k l.
+      let m : k < n = rw (length-tabulate f 0 n) at l in
+      getD-tabulate f n k a m ∙ h k m ∙ sym (getD-tabulate g n k a m))

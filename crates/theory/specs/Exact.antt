@@ -1,0 +1,69 @@
+-- The exact play and the worked play of document 01, "The cabin's accuracy". Assumes nothing.
+use Prim.Native.Nat.{ℕ, zero, suc, _+_, _*_, _/_, _^_}
+use mathlib.Core.Bool.{Bool, true, false, not, cond}
+use mathlib.Core.List.{List, [], _∷_}
+use lib.Dec.{eqb, ltb}
+use lib.ListN.{length, getD}
+use Rattle.theory.specs.Fold.{firstNot}
+use Rattle.theory.specs.Words.{digit}
+use Rattle.theory.specs.Game.{Target, absent, to, Game}
+use Rattle.theory.specs.Play.{Play, origin, act, move, last, turns, back, lastActions, Rule}
+use Rattle.theory.specs.Strategy.{initialLength}
+use Rattle.theory.specs.Table.{Table, flagged, bit}
+
+pub data Command : Type 0 where
+  missing : Command
+  give : ℕ → Command
+
+-- "the least word flagged in W"
+unfoldable pub leastFlagged : Table → ℕ
+leastFlagged T = firstNot (λ v. not (flagged T v)) (length (T .flags))
+
+-- "the lowest in the mask", of A actions; missing where the mask is 0
+unfoldable pub lowestIn : ℕ → ℕ → Command
+lowestIn A m = cond (eqb m 0) missing (give (firstNot (λ c. not (bit m c)) A))
+
+-- the command of turn i, from the position p at index 2i - d and the word w of the last L actions
+unfoldable pub commandAt : ℕ → ℕ → Table → ℕ → ℕ → ℕ → Command
+commandAt A d T i p w =
+    cond (ltb (2 * i) d) (give (digit A (initialLength d) (leastFlagged T) i)) (lowestIn A (getD (T .masks) (p * A ^ (d / 2) + w) 0))
+
+-- "Either play ends at a command that is missing or not permitted"
+pub data Run : Type 0 where
+  going : Play → Run
+  ended : Play → Run
+
+abbrev pub playOf : Run → Play
+playOf (going π) = π
+playOf (ended π) = π
+
+-- a command adds its target, then the rule's move
+unfoldable pub arrive : Rule → Play → ℕ → Target → Run
+arrive rule π c absent = ended π
+arrive rule π c (to q) = going (move (act π c q) (rule (act π c q)))
+
+unfoldable pub advance : Game → Rule → Play → Command → Run
+advance G rule π missing = ended π
+advance G rule π (give c) = arrive rule π c (G .target (last G π) c)
+
+unfoldable pub turnBy : Game → Rule → (Play → Command) → Run → Run
+turnBy G rule command (ended π) = ended π
+turnBy G rule command (going π) = advance G rule π (command π)
+
+-- n turns by a command for each play
+unfoldable pub playBy : Game → Rule → (Play → Command) → ℕ → Run
+playBy G rule command zero = going origin
+playBy G rule command (suc n) = turnBy G rule command (playBy G rule command n)
+
+-- the exact play's command at the end of π
+unfoldable pub commandOf : Game → ℕ → Table → Play → Command
+commandOf G d T π = commandAt (G .actions) d T (turns π) (last G (back d π)) (lastActions (G .actions) π (d / 2))
+
+-- the exact play after n turns: made from the game, the table and the rule alone
+unfoldable pub exact : Game → ℕ → Table → Rule → ℕ → Run
+exact G d T rule n = playBy G rule (commandOf G d T) n
+
+-- the worked play, from the rule and the actions given, newest first
+unfoldable pub worked : Game → Rule → List ℕ → Run
+worked G rule [] = going origin
+worked G rule (c ∷ earlier) = turnBy G rule (λ π. give c) (worked G rule earlier)

@@ -1,0 +1,39 @@
+-- Shared vocabulary of all crates: tests over the indices below a bound, and lists made from them.
+-- Assumes nothing.
+use Prim.Native.Nat.{ℕ, zero, suc}
+use mathlib.Core.Bool.{Bool, true, false, cond}
+use mathlib.Core.List.{List, [], _∷_}
+
+-- conjunction and disjunction of tests; shut, unlike the library's, so that their arguments can be inferred
+unfoldable pub both : Bool → Bool → Bool
+both true b = b
+both false b = false
+
+unfoldable pub either : Bool → Bool → Bool
+either true b = true
+either false b = b
+
+-- p holds of every index below n
+unfoldable pub allBelow : (ℕ → Bool) → ℕ → Bool
+allBelow p zero = true
+allBelow p (suc n) = both (allBelow p n) (p n)
+
+-- p holds of some index below n
+unfoldable pub anyBelow : (ℕ → Bool) → ℕ → Bool
+anyBelow p zero = false
+anyBelow p (suc n) = either (anyBelow p n) (p n)
+
+-- the least index below n of which p does not hold, if there is one
+unfoldable pub firstNot : (ℕ → Bool) → ℕ → ℕ
+firstNot p zero = 0
+firstNot p (suc n) = cond (allBelow p n) n (firstNot p n)
+
+-- p holds of some element
+unfoldable pub anyOf : {A : Type 0} → (A → Bool) → List A → Bool
+anyOf p [] = false
+anyOf p (x ∷ xs) = either (p x) (anyOf p xs)
+
+-- the list f i, f (i + 1), .. of n entries
+unfoldable pub tabulate : {A : Type 0} → (ℕ → A) → ℕ → ℕ → List A
+tabulate f i zero = []
+tabulate f i (suc n) = f i ∷ tabulate f (suc i) n

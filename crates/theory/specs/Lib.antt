@@ -1,0 +1,13 @@
+-- What a reader must believe, in document 01's order. Each file says what it defines.
+pub mod Fold
+pub mod Answer
+pub mod Words
+pub mod Game
+pub mod Play
+pub mod Strategy
+pub mod Infinite
+pub mod Rounds
+pub mod Delay
+pub mod Table
+pub mod Exact
+pub mod Cases

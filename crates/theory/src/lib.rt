@@ -1,0 +1,1 @@
+// The theory of safety games under delay: definitions in specs/, theorems in proofs/. It has no function.
