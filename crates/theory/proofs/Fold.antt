@@ -279,3 +279,48 @@ module _ {A : Type 0} where
       (λ k l.
       let m : k < n = rw (length-tabulate f 0 n) at l in
       getD-tabulate f n k a m ∙ h k m ∙ sym (getD-tabulate g n k a m))
+
+-- how many indices below n pass a test
+unfoldable pub count : (ℕ → Bool) → ℕ → ℕ
+count p zero = 0
+count p (suc n) = count p n + cond (p n) 1 0
+
+pub count-le : (p : ℕ → Bool) (n : ℕ) → count p n ≤ n
+unfolding count
+count-le p zero = omega arith
+count-le p (suc n) =
+    let l = count-le p n in
+    ⊎-elim (λ (e : p n ≡ true). rw e (omega arith)) (λ (e : p n ≡ false). rw e (omega arith)) (bool (p n))
+
+pub count-mono : (p q : ℕ → Bool) (n : ℕ) → ((i : ℕ) → p i ≡ true → q i ≡ true) → count p n ≤ count q n
+unfolding count
+count-mono p q zero f = omega arith
+count-mono p q (suc n) f =
+    let l = count-mono p q n f in
+    ⊎-elim
+    (λ (e : p n ≡ true). rw (e, f n e) (omega arith))
+    (λ (e : p n ≡ false). rw e (omega arith))
+    (bool (p n))
+
+-- a test that passes less often passes at the same indices or at fewer
+pub count-less : (p q : ℕ → Bool) (n : ℕ) → ((i : ℕ) → p i ≡ true → q i ≡ true)
+    → ((i : ℕ) → i < n → p i ≡ q i) ⊎ (count p n < count q n)
+unfolding count
+count-less p q zero f = inl (λ i h. absurd (omega arith))
+count-less p q (suc n) f =
+    ⊎-elim
+    (λ (e : p n ≡ true). alike (e ∙ sym (f n e)) (count-less p q n f))
+    (λ (e : p n ≡ false).
+    ⊎-elim
+    (λ (t : q n ≡ true). let l = count-mono p q n f in inr (rw (e, t) (omega arith)))
+    (λ (t : q n ≡ false). alike (e ∙ sym t) (count-less p q n f))
+    (bool (q n)))
+    (bool (p n))
+  where
+    alike : p n ≡ q n → ((i : ℕ) → i < n → p i ≡ q i) ⊎ (count p n < count q n)
+        → ((i : ℕ) → i < suc n → p i ≡ q i) ⊎ (count p n + cond (p n) 1 0 < count q n + cond (q n) 1 0)
+    alike e r =
+        ⊎-elim
+        (λ g. inl (λ i h. ⊎-elim (λ (l : i < n). g i l) (λ (m : i ≡ n). rw m e) (below-cases h)))
+        (λ (l : count p n < count q n). inr (rw e (omega arith)))
+        r
