@@ -1,5 +1,6 @@
 -- The theorems over specs/, each once, for every delay, number of actions and game.
 pub mod Fold
+pub mod Masks
 pub mod Answer
 pub mod Words
 pub mod Rounds
