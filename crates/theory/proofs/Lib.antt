@@ -4,3 +4,5 @@ pub mod Masks
 pub mod Answer
 pub mod Words
 pub mod Rounds
+pub mod Region
+pub mod Pending
