@@ -2,3 +2,4 @@
 pub mod Fold
 pub mod Answer
 pub mod Plays
+pub mod Infinite

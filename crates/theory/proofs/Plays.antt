@@ -2,13 +2,13 @@
 -- Assumes nothing.
 use Prim.Native.Nat.{ℕ, zero, suc, _+_, _-_, _*_, _/_, _%_, _<_}
 use mathlib.Core.Path.{_≡_, refl}
-use mathlib.Core.Bool.{Bool, true, false}
-use mathlib.Core.Logic.{_⊎_, ⊎-elim}
+use mathlib.Core.Bool.{true, false}
+use mathlib.Core.Logic.{⊎-elim}
 use mathlib.Core.List.{List·Memᴰ}
 use native.Mathlib.Omega.{arith}
 use Rattle.theory.specs.Game.{Game, Legal, to}
 use Rattle.theory.specs.Play.{Play, origin, act, move, lastFrom, last, turns, index, back, IsPlay, begun, acted, moved}
-use Rattle.theory.specs.Strategy.{Strategy, Next, by-action, by-move, Consistent, here, then}
+use Rattle.theory.specs.Strategy.{Strategy, choice, Next, by-action, by-move, Consistent, here, then}
 use Rattle.theory.proofs.Fold.{bool, not-both}
 
 -- taking moves back
@@ -130,3 +130,26 @@ module _ {G : Game} (legal : Legal G) where
 
     pub odd-yard : index π % 2 ≡ 1 → G .controller (last G π) ≡ false
     odd-yard h = ⊎-elim (λ e. absurd (omega (arith, own-index e))) (λ e. e) (bool (G .controller (last G π)))
+
+-- one move of a consistent play changes the side
+
+pub record Acts (G : Game) {A : ℕ} (d : ℕ) (σ : Strategy A d) (π π′ : Play) : Type 0 where
+  pub play : π′ ≡ act π (choice d σ π) (last G π′)
+  pub target : G .target (last G π) (choice d σ π) ≡ to (last G π′)
+  pub yard : G .controller (last G π′) ≡ false
+
+pub record Moves (G : Game) (π π′ : Play) : Type 0 where
+  pub play : π′ ≡ move π (last G π′)
+  pub member : List·Memᴰ (last G π′) (G .moves (last G π))
+  pub own : G .controller (last G π′) ≡ true
+
+module _ {G : Game} (legal : Legal G) {A d : ℕ} {σ : Strategy A d} where
+  pub next-own : {π π′ : Play} → Next G d σ π π′ → G .controller (last G π) ≡ true → Acts G d σ π π′
+  unfolding lastFrom
+  next-own (by-action q e) o = record { play = refl; target = e; yard = legal .targets _ _ q e .environment }
+  next-own (by-move r m) o = absurd (not-both o (legal .moves _ r m .from-environment))
+
+  pub next-yard : {π π′ : Play} → Next G d σ π π′ → G .controller (last G π) ≡ false → Moves G π π′
+  unfolding lastFrom
+  next-yard (by-action q e) y = absurd (not-both (legal .targets _ _ q e .from-controller) y)
+  next-yard (by-move r m) y = record { play = refl; member = m; own = legal .moves _ r m .controller }
