@@ -1,8 +1,10 @@
 -- The theorems over specs/, each once, for every delay, number of actions and game.
 pub mod Fold
-pub mod Masks
 pub mod Answer
 pub mod Words
+pub mod Masks
 pub mod Rounds
 pub mod Region
+pub mod Plays
+pub mod Infinite
 pub mod Pending
