@@ -198,6 +198,6 @@ infinite-wins G legal d σ playable safe =
     }
 
 -- the finite and the infinite reading are one
-pub wins-iff : (G : Game) → Legal G → {A : ℕ} (d : ℕ) (σ : Strategy A d)
+pub wins-outcomes : (G : Game) → Legal G → {A : ℕ} (d : ℕ) (σ : Strategy A d)
     → Wins G d σ ↔ (Playable G d σ × ((π : Infinite) → Outcome G d σ π → AllSafe G π))
-wins-iff G legal d σ = ((λ w. (w .playable, wins-safe w)), (λ h. infinite-wins G legal d σ (h .0) (h .1)))
+wins-outcomes G legal d σ = ((λ w. (w .playable, wins-safe w)), (λ h. infinite-wins G legal d σ (h .0) (h .1)))
