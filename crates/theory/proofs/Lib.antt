@@ -8,3 +8,7 @@ pub mod Region
 pub mod Plays
 pub mod Infinite
 pub mod Pending
+pub mod Turns
+pub mod Keeping
+pub mod Tables
+pub mod Ours

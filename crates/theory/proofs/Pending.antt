@@ -216,3 +216,16 @@ module _ (G : Game) (d : ℕ) (σ : Strategy (G .actions) d) where
       step-joined π (omega arith)
       ∙ ap (λ b. outcomes b G (words G d) (last G π) (encode (G .actions) (pending d σ π) (suc (d / 2)))) e
       ∙ ap₂ (λ h w. map (movedTo G (words G d) h w) (G .moves (last G π))) (joined-oldest π) (joined-rest π)
+
+  -- the first histories of the right side
+  pub even-first : odd d ≡ false → node G d σ origin ≡ G .start * words G d + σ .initial
+  unfolding node lastFrom
+  even-first e = ap (λ w. G .start * words G d + w) (even-initial d σ (even-delay d e))
+
+  pub odd-first : (c q : ℕ) → odd d ≡ true → node G d σ (act origin c q) ≡ q * words G d + σ .initial % words G d
+  unfolding node lastFrom words
+  odd-first c q e = ap (λ w. q * G .actions ^ (d / 2) + w) (sym (odd-initial-rest d σ c q (odd-delay d e)))
+
+  pub odd-played : odd d ≡ true → σ .initial / words G d ≡ choice d σ origin
+  unfolding words
+  odd-played e = odd-initial-first d σ (odd-delay d e)
