@@ -12,3 +12,5 @@ pub mod Turns
 pub mod Keeping
 pub mod Tables
 pub mod Ours
+pub mod Steering
+pub mod Waiting

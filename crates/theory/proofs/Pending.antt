@@ -103,6 +103,11 @@ module _ {A : ℕ} (d : ℕ) (σ : Strategy A d) where
   unfolding word
   joined π l = rw (encode-suc A (pending d σ π) (d / 2), given-pending π l)
 
+  pub rest-joined : (π : Play) → d ≤ 2 * (turns π + d / 2) → rest π ≡ (word d σ π * A + σ .given π) % A ^ (d / 2)
+  unfolding rest
+  rest-joined π l =
+      sym (younger A (pending d σ π) (d / 2) (λ i h. pending-lt π i)) ∙ ap (λ x. x % A ^ (d / 2)) (sym (joined π l))
+
   -- where h is played: even delay, at the history's own position; odd delay, after the environment's next move
   pub even-choice : (π : Play) → d % 2 ≡ 0 → choice d σ π ≡ pending d σ π 0
   unfolding choice pending

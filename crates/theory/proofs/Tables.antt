@@ -117,7 +117,7 @@ module _ (G : Game) (legal : Legal G) (d : ℕ) where
           let (p, h, y, q) = odd-reach _ _ k′ i in
           found p _ h (right-odd G (odd d) p e ∙ ap not y) (mod-lt _ words-some) q
 
-  even-word : (v : ℕ) → odd d ≡ false → v < initialWords G d → v < words G d
+  pub even-word : (v : ℕ) → odd d ≡ false → v < initialWords G d → v < words G d
   unfolding initialWords words
   even-word v e l =
       let m = even-delay d e in
