@@ -163,11 +163,9 @@ module _ (G : Game) (legal : Legal G) where
   -- the first delay from 0 upward that loses is the one that the answer names
   pub answer-found : (d m : ℕ) → m ≤ d → ((j : ℕ) → j < m → winning G j ≡ true) → winning G m ≡ false → answer G d ≡ losing m
   answer-found d m l before e =
-      answer-loses d lost
-      ∙ ap losing
-      (first-unique (winning G)
-      (first (winning G) (suc d) (all-fails (winning G) m (suc d) (omega arith) e))
-      (record { below = omega arith; fails = e; before = before }))
+      let f = first (winning G) (suc d) (all-fails (winning G) m (suc d) (omega arith) e) in
+      let g : First (winning G) (suc m) m = record { below = omega arith; fails = e; before = before } in
+      answer-loses d lost ∙ ap losing (first-unique (winning G) f g)
     where
       lost : winning G d ≡ false
       lost =
