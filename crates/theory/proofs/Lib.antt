@@ -14,3 +14,4 @@ pub mod Tables
 pub mod Ours
 pub mod Steering
 pub mod Waiting
+pub mod Exact
