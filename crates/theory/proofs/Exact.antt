@@ -1,22 +1,19 @@
 -- The exact play by any judged table (specs/Exact.antt): it is the lowest action's strategy at work, so it never ends and all its
 -- positions are safe. The part of demand 3 that has no call and no state in it. Assumes nothing.
-use Prim.Native.Nat.{ℕ, zero, suc, _+_, _-_, _*_, _/_, _%_, _^_, _≤_, _<_}
+use Prim.Native.Nat.{ℕ, zero, suc, _+_, _-_, _*_, _/_, _^_, _≤_, _<_}
 use mathlib.Core.Path.{_≡_, refl, sym, _∙_, ap, ap₂}
-use mathlib.Core.Bool.{Bool, true, false, not, cond}
+use mathlib.Core.Bool.{true, false, not}
 use mathlib.Core.Logic.{⊎-elim}
-use mathlib.Core.List.{List, List·Memᴰ}
 use native.Mathlib.Omega.{arith}
-use lib.Dec.{eqb, ltb}
 use lib.ListN.{length, getD}
-use borrow.Author.Tests.{lt-ltb, le-ltb, not-true, not-false}
-use Rattle.theory.specs.Fold.{allBelow, firstNot}
+use borrow.Author.Tests.{lt-ltb, le-ltb, not-false}
 use Rattle.theory.specs.Words.{encode, digit}
 use Rattle.theory.specs.Game.{Game, to, Legal}
 use Rattle.theory.specs.Play.{Play, origin, act, move, last, lastFrom, turns, index, back, lastActions, IsPlay, Rule, IsRule}
 use Rattle.theory.specs.Strategy.{initialLength, Strategy, actionOf, choice, by-action, by-move, Consistent, here, then, Wins}
-use Rattle.theory.specs.Delay.{odd, words, initialWords, onRight}
-use Rattle.theory.specs.Table.{Table, flagged, bit, lacks, has, Fits, Judged, pending, word, node}
-use Rattle.theory.specs.Exact.{Command, missing, give, leastFlagged, lowestIn, commandAt, Run, going, arrive, advance, turnBy, playBy, commandOf, exact}
+use Rattle.theory.specs.Delay.{odd, words, initialWords}
+use Rattle.theory.specs.Table.{Table, flagged, has, Fits, Judged, pending, word, node}
+use Rattle.theory.specs.Exact.{give, leastFlagged, lowestIn, commandAt, going, arrive, advance, turnBy, playBy, commandOf, exact}
 use Rattle.theory.proofs.Fold.{bool, not-both, below?, all-fails, first}
 use Rattle.theory.proofs.Words.{encode-suc, encode-zero, encode-same}
 use Rattle.theory.proofs.Masks.{lowest-gives}

@@ -1,25 +1,24 @@
 -- A strategy that wins reaches nodes of the winning region only, and a strategy that keeps its nodes inside a winning set wins: the
 -- two halves of the correctness of the rounds, for every delay. Assumes nothing.
-use Prim.Native.Nat.{ℕ, zero, suc, _+_, _*_, _/_, _%_, _≤_, _<_}
-use mathlib.Core.Path.{_≡_, refl, sym, _∙_, ap, ap₂}
+use Prim.Native.Nat.{ℕ, _+_, _*_, _/_, _%_, _<_}
+use mathlib.Core.Path.{_≡_, refl, sym, _∙_, ap}
 use mathlib.Core.Bool.{Bool, true, false, not}
 use mathlib.Core.Logic.{_⊎_, inl, inr, ⊎-elim}
-use mathlib.Core.List.{List, List·Memᴰ}
+use mathlib.Core.List.{List·Memᴰ}
 use native.Mathlib.Omega.{arith}
-use borrow.Author.Tests.{not-true, not-false}
-use Rattle.theory.specs.Fold.{both}
+use borrow.Author.Tests.{not-true}
 use Rattle.theory.specs.Game.{Game, Target, absent, to, Legal}
 use Rattle.theory.specs.Play.{Play, origin, act, move, last, lastFrom, turns}
 use Rattle.theory.specs.Strategy.{Strategy, choice, Next, by-action, by-move, Consistent, here, then, Wins}
 use Rattle.theory.specs.Rounds.{spoiltBy, fell, finalRanks, kept}
 use Rattle.theory.specs.Delay.{odd, words, onRight, arena, keptAt, goodBy, goodFrom, goodWith}
-use Rattle.theory.specs.Table.{word, node}
+use Rattle.theory.specs.Table.{node}
 use Rattle.theory.proofs.Fold.{bool, not-both, both-true, both-left, both-right}
 use Rattle.theory.proofs.Rounds.{unspoilt}
 use Rattle.theory.proofs.Region.{Closed, kept-is, region-largest}
 use Rattle.theory.proofs.Plays.{consistent-play, play-position, yard-index}
-use Rattle.theory.proofs.Pending.{odd-delay, even-delay, even-first, odd-first, odd-played, node-lt, node-right, node-safe}
-use Rattle.theory.proofs.Turns.{right-even, right-odd, absent-not-to, to-injective, target-cases, Even, Odd, Stays, even-turn, even-stays, odd-turn, odd-stays}
+use Rattle.theory.proofs.Pending.{even-first, odd-first, odd-played, node-lt, node-right, node-safe}
+use Rattle.theory.proofs.Turns.{right-even, right-odd, to-injective, Even, Odd, Stays, even-turn, even-stays, odd-turn, odd-stays}
 
 -- a first word begins inside S: the reading of goodBy for any set
 

@@ -15,3 +15,4 @@ pub mod Ours
 pub mod Steering
 pub mod Waiting
 pub mod Exact
+pub mod Cases

@@ -1,28 +1,23 @@
 -- Our own table: it fits, it is judged, every judged table lies inside it, and a strategy wins exactly if it keeps to it.
 -- Assumes nothing.
-use Prim.Native.Nat.{ℕ, zero, suc, _+_, _*_, _^_, _≤_, _<_}
-use mathlib.Core.Path.{_≡_, refl, sym, _∙_, ap}
-use mathlib.Core.Bool.{Bool, true, false, not, cond}
+use Prim.Native.Nat.{ℕ, _≤_, _<_}
+use mathlib.Core.Path.{_≡_, _∙_}
+use mathlib.Core.Bool.{Bool, true, false, cond}
 use mathlib.Core.Logic.{_↔_, ⊎-elim}
-use mathlib.Core.List.{List, List·Memᴰ}
+use mathlib.Core.List.{List·Memᴰ}
 use native.Mathlib.Omega.{arith}
-use lib.Pow.{pow-pos}
-use lib.Dec.{eqb}
-use lib.ListN.{length, getD, List·getD-eq-default}
-use borrow.Author.Tests.{eqb-true, eqb-false, eq-eqb, ne-eqb, not-true, not-false}
-use Rattle.theory.specs.Fold.{tabulate}
+use lib.ListN.{getD, List·getD-eq-default}
 use Rattle.theory.specs.Game.{Game, Target, to, Legal}
-use Rattle.theory.specs.Play.{Play, last}
 use Rattle.theory.specs.Strategy.{Strategy, Wins}
-use Rattle.theory.specs.Rounds.{spoiltBy, fell, finalRanks, kept, maskBelow, maskAt, masks}
-use Rattle.theory.specs.Delay.{initialWords, arena, goodFrom, goodWith, flags}
-use Rattle.theory.specs.Table.{Table, ours, flagged, lacks, has, bit, allows, Fits, Judged, Inside, node, Obeys}
+use Rattle.theory.specs.Rounds.{spoiltBy, fell, finalRanks, kept, masks}
+use Rattle.theory.specs.Delay.{initialWords, arena, goodWith, flags}
+use Rattle.theory.specs.Table.{Table, ours, flagged, lacks, has, allows, Fits, Judged, Inside, node, Obeys}
 use Rattle.theory.proofs.Fold.{bool, not-both, below?, length-tabulate, getD-tabulate, getD-tabulate-out}
-use Rattle.theory.proofs.Masks.{mask-lt, bit-high, some-bit, zero-bit}
+use Rattle.theory.proofs.Masks.{bit-high, some-bit}
 use Rattle.theory.proofs.Rounds.{unspoilt, unspoilt-outcome}
 use Rattle.theory.proofs.Region.{Closed, Allowed, kept-right, kept-stood, kept-is, region-safe, region-largest, length-masks, mask-bound, allowed, allows-unspoilt, region-mask, mask-region}
 use Rattle.theory.proofs.Keeping.{Seen, seen-node, given-unspoilt, reached-kept, initial-good}
-use Rattle.theory.proofs.Tables.{has-mask, mask-has, lacks-has, has-lacks, allows-has, step-legal, good-more, judged-outcome, obeys-wins}
+use Rattle.theory.proofs.Tables.{has-mask, mask-has, has-lacks, allows-has, step-legal, good-more, judged-outcome, obeys-wins}
 
 module _ (G : Game) (d : ℕ) where
   -- the W flags
@@ -125,6 +120,41 @@ module _ (G : Game) (d : ℕ) where
     has-action k e = some-bit (getD (T .masks) k 0) (G .actions) (fits .masks-small k) (has-mask T k e)
 
 module _ (G : Game) (legal : Legal G) (d : ℕ) where
+  abbrev region : ℕ → Bool
+  region k = kept (arena G d) (finalRanks (arena G d)) k
+
+  -- demand 2's table: an action of a node of the winning region all of whose outcomes stay in the region
+  pub record Keeps (k c : ℕ) : Type 0 where
+    pub node : k < arena G d .nodes
+    pub kept : region k ≡ true
+    pub action : c < G .actions
+    pub inside : (o : Target) → List·Memᴰ o (arena G d .step k c) → (k′ : ℕ) × (o ≡ to k′) × (region k′ ≡ true)
+
+  pub allows-keeps : (k c : ℕ) → (allows (ours G d) k c ≡ true) ↔ Keeps k c
+  unfolding arena
+  allows-keeps k c = (
+    λ e.
+        let a = ours-allowed G d k c e in
+        record { node = a .node; kept = a .region; action = a .action; inside = stay (a .unspoilt) },
+    λ s.
+        allowed-ours G d k c
+        (record {
+          node = s .node;
+          region = s .kept;
+          action = s .action;
+          unspoilt =
+              unspoilt (arena G d) (fell (finalRanks (arena G d))) k c
+              (λ o i. let x = s .inside o i in (x .0, x .1, kept-stood (arena G d) (finalRanks (arena G d)) (x .0) (x .2)));
+        }),
+  )
+    where
+      stay : spoiltBy (arena G d) (fell (finalRanks (arena G d))) k c ≡ false → (o : Target) → List·Memᴰ o (arena G d .step k c)
+          → (k′ : ℕ) × (o ≡ to k′) × (region k′ ≡ true)
+      stay u o i =
+          let x = unspoilt-outcome (arena G d) (fell (finalRanks (arena G d))) k c u i in
+          let l = step-legal G legal d k c (x .0) (rw (x .1) at i) in
+          (x .0, x .1, kept-is (arena G d) (finalRanks (arena G d)) (x .0) (l .1) (x .2))
+
   -- our own table is judged
   pub ours-judged : Judged G d (ours G d)
   unfolding goodWith

@@ -1,16 +1,15 @@
 -- The pending word of a strategy at a history, and the step of the arena at the node reached: the one place with the arithmetic
 -- of the delay's parity. Assumes nothing.
-use Prim.Native.Nat.{ℕ, zero, suc, _+_, _-_, _*_, _/_, _%_, _^_, _≤_, _<_}
+use Prim.Native.Nat.{ℕ, suc, _+_, _-_, _*_, _/_, _%_, _^_, _≤_, _<_}
 use mathlib.Core.Path.{_≡_, refl, sym, _∙_, ap, ap₂}
-use mathlib.Core.Bool.{Bool, true, false, not, cond}
+use mathlib.Core.Bool.{true, false}
 use mathlib.Core.Logic.{⊎-elim}
-use mathlib.Core.List.{List, map}
+use mathlib.Core.List.{map}
 use native.Mathlib.Omega.{arith}
-use lib.Dec.{eqb, ltb}
 use lib.Arith.{digits-div, digits-mod, digits-lt}
 use borrow.Author.Tests.{eqb-true, eqb-false, lt-ltb, le-ltb}
 use Rattle.theory.specs.Words.{encode, digit}
-use Rattle.theory.specs.Game.{Game, Target}
+use Rattle.theory.specs.Game.{Game}
 use Rattle.theory.specs.Play.{Play, origin, act, move, last, lastFrom, turns, back}
 use Rattle.theory.specs.Strategy.{Strategy, initialLength, actionOf, choice}
 use Rattle.theory.specs.Delay.{odd, words, onRight, movedTo, playedTo, outcomes, step, arena}

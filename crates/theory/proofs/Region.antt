@@ -2,14 +2,13 @@
 -- that keep every outcome in it. Assumes nothing.
 use Prim.Native.Nat.{ℕ, zero, suc, _^_, _≤_, _<_}
 use mathlib.Core.Path.{_≡_, refl, sym, _∙_, ap}
-use mathlib.Core.Bool.{Bool, true, false, not, cond}
+use mathlib.Core.Bool.{Bool, true, false, not}
 use mathlib.Core.Logic.{⊎-elim}
 use mathlib.Core.List.{List, List·Memᴰ}
-use native.Mathlib.Omega.{arith}
 use lib.Pow.{pow-pos}
 use lib.ListN.{length, getD}
 use borrow.Author.Tests.{not-true, not-false}
-use Rattle.theory.specs.Fold.{both, allBelow, firstNot, tabulate}
+use Rattle.theory.specs.Fold.{allBelow, firstNot}
 use Rattle.theory.specs.Game.{Target, to}
 use Rattle.theory.specs.Rounds.{Arena, spoiltBy, fell, falls, ranksAfter, finalRanks, kept, maskBelow, maskAt, masksBy, masks}
 use Rattle.theory.specs.Table.{bit}

@@ -1,6 +1,6 @@
 -- A strategy that plays by node: it follows its pending word along the play and gives at each history the action chosen for the node
 -- reached. The lowest action of a table is one such choice. Assumes nothing.
-use Prim.Native.Nat.{ℕ, zero, suc, _+_, _*_, _/_, _%_, _^_, _≤_, _<_}
+use Prim.Native.Nat.{ℕ, _+_, _*_, _/_, _%_, _^_, _≤_, _<_}
 use mathlib.Core.Path.{_≡_, refl, sym, _∙_, ap}
 use mathlib.Core.Bool.{Bool, true, false, not, cond}
 use mathlib.Core.Logic.{_↔_, ⊎-elim}
@@ -9,11 +9,11 @@ use native.Mathlib.Nat.{mod-eq-of-lt}
 use lib.ListN.{getD}
 use borrow.Author.Tests.{not-true, not-false}
 use Rattle.theory.specs.Fold.{firstNot}
-use Rattle.theory.specs.Game.{Game, to, Legal}
+use Rattle.theory.specs.Game.{Game, Legal}
 use Rattle.theory.specs.Play.{Play, origin, act, move, last, lastFrom, turns}
-use Rattle.theory.specs.Strategy.{initialLength, Strategy, choice, by-action, by-move, Consistent, here, then, Wins, Winnable}
+use Rattle.theory.specs.Strategy.{Strategy, choice, by-action, by-move, Consistent, here, then, Wins, Winnable}
 use Rattle.theory.specs.Rounds.{finalRanks}
-use Rattle.theory.specs.Delay.{odd, words, initialWords, onRight, arena, goodWith, winning}
+use Rattle.theory.specs.Delay.{odd, words, initialWords, arena, goodWith, winning}
 use Rattle.theory.specs.Table.{Table, ours, flagged, lacks, has, bit, allows, Fits, Judged, word, node, Obeys}
 use Rattle.theory.proofs.Fold.{bool, not-both, any-holds, any-some}
 use Rattle.theory.proofs.Masks.{Lowest, lowest}
@@ -22,7 +22,7 @@ use Rattle.theory.proofs.Pending.{odd-delay, even-delay, even-advance, 
 use Rattle.theory.proofs.Turns.{right-even, right-odd}
 use Rattle.theory.proofs.Keeping.{Seen, initial-good}
 use Rattle.theory.proofs.Tables.{legal-actions, has-mask, has-lacks, even-word, Picks, picks-wins, picks-has}
-use Rattle.theory.proofs.Ours.{ours-fits, ours-judged, good-flagged, flagged-good}
+use Rattle.theory.proofs.Ours.{ours-fits, ours-judged, good-flagged}
 
 -- the pending word along a play, for the choice `at` of an action for each node and the first word v
 module _ (G : Game) (m : ℕ) (at : ℕ → ℕ) (v : ℕ) where

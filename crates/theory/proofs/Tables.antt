@@ -1,30 +1,27 @@
 -- Tables (specs/Table.antt): any choice out of a judged table wins; our own table is judged; every judged table lies inside ours; and a
 -- strategy wins exactly if it keeps to ours. Assumes nothing.
-use Prim.Native.Nat.{ℕ, zero, suc, _+_, _*_, _/_, _%_, _^_, _≤_, _<_}
-use mathlib.Core.Path.{_≡_, refl, sym, _∙_, ap, ap₂}
-use mathlib.Core.Bool.{Bool, true, false, not, cond}
-use mathlib.Core.Logic.{_↔_, _⊎_, inl, inr, ⊎-elim}
-use mathlib.Core.List.{List, List·Memᴰ, Memᴰ·of-map}
+use Prim.Native.Nat.{ℕ, _+_, _*_, _/_, _%_, _<_}
+use mathlib.Core.Path.{_≡_, refl, _∙_, ap}
+use mathlib.Core.Bool.{Bool, true, false, not}
+use mathlib.Core.Logic.{⊎-elim}
+use mathlib.Core.List.{List·Memᴰ, Memᴰ·of-map}
 use native.Mathlib.Omega.{arith}
-use lib.Dec.{eqb}
-use lib.Arith.{digits-lt, digits-div, digits-mod}
-use lib.ListN.{length, getD}
-use native.Mathlib.Nat.{mod-lt, one-le-pow, pow-zero}
-use borrow.Author.Tests.{eqb-true, eqb-false, eq-eqb, ne-eqb, not-true, not-false}
-use Rattle.theory.specs.Fold.{anyBelow, tabulate}
+use lib.Arith.{digits-lt, digits-div}
+use lib.ListN.{getD}
+use native.Mathlib.Nat.{mod-lt, one-le-pow}
+use borrow.Author.Tests.{eqb-false, ne-eqb, not-true}
 use Rattle.theory.specs.Game.{Game, Target, absent, to, Legal}
-use Rattle.theory.specs.Play.{Play, last}
-use Rattle.theory.specs.Strategy.{initialLength, Strategy, Consistent, Wins}
-use Rattle.theory.specs.Rounds.{spoiltBy, fell, finalRanks, kept, maskBelow, maskAt, masks}
-use Rattle.theory.specs.Delay.{odd, words, initialWords, onRight, withWord, movedTo, playedTo, outcomes, step, arena, goodFrom, goodWith, winning, flags}
-use Rattle.theory.specs.Table.{Table, ours, flagged, lacks, has, bit, allows, Fits, Judged, Inside, node, Obeys}
-use Rattle.theory.proofs.Fold.{bool, not-both, below?, length-tabulate, getD-tabulate, getD-tabulate-out, any-holds, any-some}
-use Rattle.theory.proofs.Masks.{mask-lt, bit-high, some-bit, zero-bit}
-use Rattle.theory.proofs.Rounds.{unspoilt, unspoilt-outcome, fell-false}
-use Rattle.theory.proofs.Region.{Closed, Allowed, kept-right, kept-stood, kept-is, region-safe, region-largest, length-masks, mask-is, mask-out, allowed, allows-unspoilt, region-mask, mask-region}
-use Rattle.theory.proofs.Turns.{right-even, right-odd, to-injective, absent-not-to, played-node, played-forbidden, played-passed, moved-passed}
+use Rattle.theory.specs.Play.{Play}
+use Rattle.theory.specs.Strategy.{initialLength, Strategy, Wins}
+use Rattle.theory.specs.Rounds.{masks}
+use Rattle.theory.specs.Delay.{odd, words, initialWords, onRight, movedTo, playedTo, outcomes, step, arena, goodFrom}
+use Rattle.theory.specs.Table.{Table, flagged, lacks, has, bit, allows, Judged, node, Obeys}
+use Rattle.theory.proofs.Fold.{bool, not-both}
+use Rattle.theory.proofs.Masks.{zero-bit}
+use Rattle.theory.proofs.Rounds.{unspoilt, unspoilt-outcome}
+use Rattle.theory.proofs.Turns.{right-even, right-odd, to-injective, played-node, played-forbidden, played-passed, moved-passed}
 use Rattle.theory.proofs.Pending.{even-delay}
-use Rattle.theory.proofs.Keeping.{Starts, good-starts, starts-good, Seen, Keeping, seen-node, given-unspoilt, reached-kept, initial-good, keeping-wins, keeping-node}
+use Rattle.theory.proofs.Keeping.{Starts, good-starts, starts-good, Seen, Keeping, seen-node, keeping-wins, keeping-node}
 
 -- a table's tests
 

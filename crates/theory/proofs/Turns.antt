@@ -1,21 +1,19 @@
 -- One whole turn of a strategy, seen from a history of the right side (own for even delays, the environment's for odd ones): each
 -- outcome of the step at its node is the node of the next history, and what a step without a bad outcome says of the positions
 -- passed. Assumes nothing.
-use Prim.Native.Nat.{ℕ, zero, suc, _+_, _*_, _/_, _%_, _^_, _≤_, _<_}
-use mathlib.Core.Path.{_≡_, refl, sym, _∙_, ap, ap₂}
-use mathlib.Core.Bool.{Bool, true, false, not, cond}
+use Prim.Native.Nat.{ℕ, _+_, _*_, _<_}
+use mathlib.Core.Path.{_≡_, refl, sym, _∙_, ap}
+use mathlib.Core.Bool.{Bool, true, false, not}
 use mathlib.Core.Logic.{_⊎_, inl, inr, ⊎-elim}
-use mathlib.Core.List.{List, [], _∷_, map, List·Memᴰ, List·Memᴰ·head, List·Memᴰ·eq-of-singleton, Memᴰ·map, Memᴰ·of-map}
+use mathlib.Core.List.{map, List·Memᴰ, List·Memᴰ·head, List·Memᴰ·eq-of-singleton, Memᴰ·map, Memᴰ·of-map}
 use native.Mathlib.Omega.{arith}
-use borrow.Author.Tests.{not-true, not-false}
-use Rattle.theory.specs.Game.{Game, Target, absent, to, Legal}
-use Rattle.theory.specs.Play.{Play, origin, act, move, last, lastFrom, turns}
-use Rattle.theory.specs.Strategy.{Strategy, choice, Next, by-action, by-move, Consistent, here, then, Wins}
+use Rattle.theory.specs.Game.{Game, Target, absent, to}
+use Rattle.theory.specs.Play.{Play, act, move, last, lastFrom, turns}
+use Rattle.theory.specs.Strategy.{Strategy, choice}
 use Rattle.theory.specs.Delay.{odd, words, onRight, withWord, movedTo, playedTo, arena}
-use Rattle.theory.specs.Table.{pending, word, node}
-use Rattle.theory.proofs.Fold.{bool, not-both}
-use Rattle.theory.proofs.Plays.{consistent-play, play-position, yard-index}
-use Rattle.theory.proofs.Pending.{odd-delay, even-delay, even-advance, odd-advance, rest, rest-is, odd-choice, even-step, odd-step}
+use Rattle.theory.specs.Table.{pending, node}
+use Rattle.theory.proofs.Fold.{bool}
+use Rattle.theory.proofs.Pending.{odd-delay, even-advance, odd-advance, rest, rest-is, odd-choice, even-step, odd-step}
 
 -- the side of a history, by the delay's parity
 

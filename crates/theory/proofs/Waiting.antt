@@ -1,22 +1,21 @@
 -- Monotonicity in the delay: a strategy for delay d + 1, played without its newest information, wins at delay d. So the asked delay
 -- wins exactly if no delay up to it loses, and the losing delay of the answer is the least at which no strategy wins.
 -- Assumes nothing.
-use Prim.Native.Nat.{ℕ, zero, suc, _+_, _-_, _*_, _/_, _%_, _^_, _≤_, _<_}
-use mathlib.Core.Path.{_≡_, refl, sym, _∙_, ap, ap₂}
-use mathlib.Core.Bool.{Bool, true, false, cond}
-use mathlib.Core.Logic.{_↔_, _⊎_, inl, inr, ⊎-elim}
+use Prim.Native.Nat.{ℕ, zero, suc, _+_, _-_, _*_, _/_, _^_, _≤_, _<_}
+use mathlib.Core.Path.{_≡_, refl, sym, _∙_, ap}
+use mathlib.Core.Bool.{Bool, true, false}
+use mathlib.Core.Logic.{_↔_, ⊎-elim}
 use native.Mathlib.Omega.{arith}
 use native.Mathlib.Nat.{pow-suc, div-lt-iff-lt-mul}
-use lib.Dec.{ltb}
-use Rattle.theory.specs.Fold.{allBelow, firstNot}
+use Rattle.theory.specs.Fold.{firstNot}
 use Rattle.theory.specs.Words.{digit}
-use Rattle.theory.specs.Game.{Game, to, Legal}
-use Rattle.theory.specs.Play.{Play, origin, act, move, last, lastFrom, turns, index, back}
-use Rattle.theory.specs.Strategy.{initialLength, Strategy, actionOf, choice, Next, by-action, by-move, Consistent, here, then, Wins, Winnable}
-use Rattle.theory.specs.Delay.{odd, winning, Verdict, wins, losing, answerBy, answer}
-use Rattle.theory.proofs.Fold.{bool, not-both, below?, all-at, all-below, all-fails, first, First, first-unique}
+use Rattle.theory.specs.Game.{Game, Legal}
+use Rattle.theory.specs.Play.{Play, origin, act, move, turns, index, back}
+use Rattle.theory.specs.Strategy.{initialLength, Strategy, actionOf, choice, by-action, by-move, Consistent, here, then, Wins, Winnable}
+use Rattle.theory.specs.Delay.{odd, winning, wins, losing, answerBy, answer}
+use Rattle.theory.proofs.Fold.{bool, not-both, below?, all-fails, first, First, first-unique}
 use Rattle.theory.proofs.Words.{digit-lt, digit-shorter}
-use Rattle.theory.proofs.Plays.{consistent-play, own-index, back-back, back-all, index-back}
+use Rattle.theory.proofs.Plays.{consistent-play, own-index, back-back, index-back}
 use Rattle.theory.proofs.Pending.{odd-delay, even-delay, some-action, early-action, late-action}
 use Rattle.theory.proofs.Steering.{winning-iff}
 
