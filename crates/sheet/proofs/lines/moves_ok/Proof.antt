@@ -13,39 +13,39 @@ abbrev μ-loop : tie.MeasureT-loop
 
 -- src/lines.rt:87:9
 returns : tie.Need-returns Inv-loop μ-loop
-returns c = search needs
+returns c = ?
 
 -- src/lines.rt:90:9
 returns-2 : tie.Need-returns-2 Inv-loop μ-loop
-returns-2 c = search needs
+returns-2 c = ?
 
 -- src/lines.rt:93:5
 loop-holds : tie.Need-loop-holds Inv-loop μ-loop
-loop-holds c = search needs
+loop-holds c = ?
 
 -- src/lines.rt:94:13
 move-ok-requires : tie.Need-move-ok-requires Inv-loop μ-loop
-move-ok-requires c κs = search needs
+move-ok-requires c κs = ?
 
 -- src/lines.rt:95:13
 returns-3 : tie.Need-returns-3 Inv-loop μ-loop
-returns-3 c = search needs
+returns-3 c = ?
 
 -- src/lines.rt:97:9
 add-k : tie.Need-add-k Inv-loop μ-loop
-add-k c = search needs
+add-k c = ?
 
 -- src/lines.rt:93:5
 loop-less : tie.Need-loop-less Inv-loop μ-loop
-loop-less c = search needs
+loop-less c = ?
 
 -- src/lines.rt:93:5
 loop-again : tie.Need-loop-again Inv-loop μ-loop
-loop-again c = search needs
+loop-again c = ?
 
 -- src/lines.rt:81:1
 returns-4 : tie.Need-returns-4 Inv-loop μ-loop
-returns-4 c = search needs
+returns-4 c = ?
 
 pub moves-ok-spec : {M : Type 1} → statement M
 moves-ok-spec =

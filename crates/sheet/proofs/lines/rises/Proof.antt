@@ -7,31 +7,31 @@ use Rattle.sheet.proofs.lines.key.Reads as key-reads
 
 -- src/lines.rt:24:9
 returns : tie.Need-returns
-returns c = search needs
+returns c = ?
 
 -- src/lines.rt:26:34
 sub-key : tie.Need-sub-key
-sub-key c = search needs
+sub-key c = ?
 
 -- src/lines.rt:26:25
 mul-key : tie.Need-mul-key
-mul-key c = search needs
+mul-key c = ?
 
 -- src/lines.rt:26:9
 key-requires : tie.Need-key-requires
-key-requires c κs = search needs
+key-requires c κs = ?
 
 -- src/lines.rt:27:23
 mul-key-2 : tie.Need-mul-key-2
-mul-key-2 c = search needs
+mul-key-2 c = ?
 
 -- src/lines.rt:27:9
 key-requires-2 : tie.Need-key-requires-2
-key-requires-2 c κs = search needs
+key-requires-2 c κs = ?
 
 -- src/lines.rt:19:1
 returns-2 : tie.Need-returns-2
-returns-2 c = search needs
+returns-2 c = ?
 
 pub rises-spec : {M : Type 1} → statement M
 rises-spec =

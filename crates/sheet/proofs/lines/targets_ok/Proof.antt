@@ -13,35 +13,35 @@ abbrev μ-loop : tie.MeasureT-loop
 
 -- src/lines.rt:55:9
 returns : tie.Need-returns Inv-loop μ-loop
-returns c = search needs
+returns c = ?
 
 -- src/lines.rt:58:5
 loop-holds : tie.Need-loop-holds Inv-loop μ-loop
-loop-holds c = search needs
+loop-holds c = ?
 
 -- src/lines.rt:59:13
 target-ok-requires : tie.Need-target-ok-requires Inv-loop μ-loop
-target-ok-requires c κs = search needs
+target-ok-requires c κs = ?
 
 -- src/lines.rt:60:13
 returns-2 : tie.Need-returns-2 Inv-loop μ-loop
-returns-2 c = search needs
+returns-2 c = ?
 
 -- src/lines.rt:62:9
 add-k : tie.Need-add-k Inv-loop μ-loop
-add-k c = search needs
+add-k c = ?
 
 -- src/lines.rt:58:5
 loop-less : tie.Need-loop-less Inv-loop μ-loop
-loop-less c = search needs
+loop-less c = ?
 
 -- src/lines.rt:58:5
 loop-again : tie.Need-loop-again Inv-loop μ-loop
-loop-again c = search needs
+loop-again c = ?
 
 -- src/lines.rt:49:1
 returns-3 : tie.Need-returns-3 Inv-loop μ-loop
-returns-3 c = search needs
+returns-3 c = ?
 
 pub targets-ok-spec : {M : Type 1} → statement M
 targets-ok-spec =

@@ -13,35 +13,35 @@ abbrev μ-loop : tie.MeasureT-loop
 
 -- src/size.rt:19:5
 loop-holds : tie.Need-loop-holds Inv-loop μ-loop
-loop-holds c = search needs
+loop-holds c = ?
 
 -- src/size.rt:20:17
 wide-requires : tie.Need-wide-requires Inv-loop μ-loop
-wide-requires c κs = search needs
+wide-requires c κs = ?
 
 -- src/size.rt:20:13
 mul-r : tie.Need-mul-r Inv-loop μ-loop
-mul-r c = search needs
+mul-r c = ?
 
 -- src/size.rt:22:13
 returns : tie.Need-returns Inv-loop μ-loop
-returns c = search needs
+returns c = ?
 
 -- src/size.rt:24:9
 add-i : tie.Need-add-i Inv-loop μ-loop
-add-i c = search needs
+add-i c = ?
 
 -- src/size.rt:19:5
 loop-less : tie.Need-loop-less Inv-loop μ-loop
-loop-less c = search needs
+loop-less c = ?
 
 -- src/size.rt:19:5
 loop-again : tie.Need-loop-again Inv-loop μ-loop
-loop-again c = search needs
+loop-again c = ?
 
 -- src/size.rt:14:1
 returns-2 : tie.Need-returns-2 Inv-loop μ-loop
-returns-2 c = search needs
+returns-2 c = ?
 
 pub power-spec : {M : Type 1} → statement M
 power-spec =
