@@ -13,7 +13,7 @@ use borrow.Author.Needs.{needs}
 use borrow.Author.Tests.{le-leb, lt-leb, eq-eqb, ne-eqb}
 use Rattle.theory.specs.Fold.{both, allBelow}
 use Rattle.theory.proofs.Fold.{both-true, both-false, all-none, all-fails, all-again}
-use Rattle.sheet.proofs.More.{both-none, both-second}
+use Rattle.sheet.proofs.More.{both-none, both-second, take-rest}
 use Rattle.sheet.specs.Form.{numberAt, entrySize, letterOf, offsetOf, lengthOf, placeOf, entryOk, contentsOk, placedAt, partAt, bodyOf}
 use Rattle.sheet.specs.declared.form.Place.{Place}
 
@@ -37,6 +37,17 @@ pub word-small : {low high w v : ℕ} → w ≡ low → low < 256 → v ≡ high
 word-small p q e f = omega arith
 
 pub ruleset bytes = (needs, past-end, word-none, word-is, word-small)
+
+-- where the bodies begin, n of them
+
+module _ (s : List ℕ) (n : ℕ) where
+  pub place-first : 5 * n ≡ placeOf 2 n s 0
+  unfolding placeOf entrySize
+  place-first = refl
+
+  pub place-again : (k at size : ℕ) → at ≡ placeOf 2 n s k → size ≡ numberAt 2 s (5 * k + 3) → at + size ≡ placeOf 2 n s (k + 1)
+  unfolding placeOf lengthOf entrySize
+  place-again k at size p q = rw (add-one k) (cc)
 
 -- the contents; the premises of the laws are facts at entry k, where body k must begin at `at`
 
@@ -66,15 +77,6 @@ module _ (s letters : List ℕ) where
   pub offset-refused : (k at offset : ℕ) → k < length letters → at ≡ placeOf 2 (length letters) s k
       → offset ≡ numberAt 2 s (5 * k + 1) → (offset ≡ at → ⊥) → false ≡ contentsOk 2 letters s
   offset-refused k at offset h p q e = entry-bad k h (wrong-offset k at offset p q e)
-
-  pub place-first : 5 * length letters ≡ placeOf 2 (length letters) s 0
-  unfolding placeOf entrySize
-  place-first = refl
-
-  pub place-again : (k at size : ℕ) → at ≡ placeOf 2 (length letters) s k → size ≡ numberAt 2 s (5 * k + 3)
-      → at + size ≡ placeOf 2 (length letters) s (k + 1)
-  unfolding placeOf lengthOf entrySize
-  place-again k at size p q = rw (add-one k) (cc)
 
   right-entry : (k at offset : ℕ) → getD s (5 * k) 0 ≡ getD letters k 0 → at ≡ placeOf 2 (length letters) s k
       → offset ≡ numberAt 2 s (5 * k + 1) → offset ≡ at → entryOk 2 letters s k ≡ true
@@ -117,26 +119,31 @@ module _ (s : List ℕ) (k : ℕ) where
       let next : 5 * k + suc i ≡ suc (5 * k + i) = omega arith in
       simp (getD-drop, next)
 
-  pub placed-is : (at size : ℕ) → at ≡ numberAt 2 (drop (5 * k) s) 1 → size ≡ numberAt 2 (drop (5 * k) s) 3
-      → record { at = at; size = size } ≡ placedAt 2 s k
+  -- the entry is lent as the part of the sheet from 5k on
+  pub placed-is : (at size : ℕ) → at ≡ numberAt 2 (take (length s - 5 * k) (drop (5 * k) s)) 1
+      → size ≡ numberAt 2 (take (length s - 5 * k) (drop (5 * k) s)) 3 → record { at = at; size = size } ≡ placedAt 2 s k
   unfolding placedAt offsetOf lengthOf entrySize
-  placed-is at size p q = rw (p, q, number-drop 1, number-drop 3)
+  placed-is at size p q = rw (p, q, take-rest s (5 * k), number-drop 1, number-drop 3)
+
+  pub body-is : (x : Place) (r : List ℕ) → x ≡ placedAt 2 s k → r ≡ partAt s x → r ≡ bodyOf 2 s k
+  unfolding bodyOf
+  body-is x r e f = f ∙ ap (partAt s) e
 
 module _ (s : List ℕ) (x : Place) where
-  pub part-outside : length s < x .at → take 0 s ≡ partAt s x
+  pub part-outside : length s < x .at → [] ≡ partAt s x
   unfolding partAt
   part-outside h =
       let out : length s ≤ x .at = omega arith in
       rw (drop-of-length-le s out, take-nil (x .size))
 
-  pub part-cut : length s - x .at < x .size → drop (x .at) s ≡ partAt s x
+  pub part-cut : length s - x .at < x .size → take (length s - x .at) (drop (x .at) s) ≡ partAt s x
   unfolding partAt
   part-cut h =
       let all : length (drop (x .at) s) ≤ x .size = rw (length-drop (x .at) s) (omega arith) in
-      sym (take-all (x .size) (drop (x .at) s) all)
+      take-rest s (x .at) ∙ sym (take-all (x .size) (drop (x .at) s) all)
 
-  pub part-whole : take (x .size) (drop (x .at) s) ≡ partAt s x
+  pub part-whole : take ((x .at + x .size) - x .at) (drop (x .at) s) ≡ partAt s x
   unfolding partAt
-  part-whole = refl
+  part-whole = let same : (x .at + x .size) - x .at ≡ x .size = omega arith in rw same
 
-pub ruleset parts = (needs, unplaced, placed-is, part-outside, part-cut, part-whole)
+pub ruleset parts = (needs, unplaced, placed-is, body-is, part-outside, part-cut, part-whole)

@@ -2,3 +2,4 @@
 pub mod More
 pub mod FormLaws
 pub mod KindLaws
+pub mod CheckLaws

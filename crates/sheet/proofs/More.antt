@@ -1,7 +1,11 @@
 -- Laws on tests, folds and lists that are no part of sheets. Assumes nothing.
-use Prim.Native.Nat.{ℕ, _+_, _≤_, _<_}
+use Prim.Native.Nat.{ℕ, _+_, _-_, _≤_, _<_}
 use mathlib.Core.Path.{_≡_, refl, sym, _∙_}
 use mathlib.Core.Bool.{Bool, true, false, not}
+use mathlib.Core.List.{List}
+use native.Mathlib.Nat.{le-refl}
+use lib.ListN.{length, take, drop, length-drop}
+use lib.Seq.{take-all}
 use borrow.Author.Tests.{not-true, not-false}
 use Rattle.theory.specs.Fold.{both, either, allBelow, anyBelow}
 use Rattle.theory.proofs.Fold.{all-fails, all-again, any-holds}
@@ -33,3 +37,7 @@ all-next p i {r} e q t = all-again p i e q (not-false r t)
 -- a loop's test failed
 pub all-stopped : (p : ℕ → Bool) (i n : ℕ) {r : Bool} → i < n → r ≡ p i → not r ≡ true → allBelow p n ≡ false
 all-stopped p i n h q t = all-fails p i n h (failed q t)
+
+-- the rest of a list, as a part of a slice without an end is lent
+pub take-rest : (l : List ℕ) (n : ℕ) → take (length l - n) (drop n l) ≡ drop n l
+take-rest l n = take-all (length l - n) (drop n l) (rw (length-drop n l) (le-refl (length l - n)))

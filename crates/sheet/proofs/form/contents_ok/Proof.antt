@@ -1,10 +1,11 @@
+use borrow.Author.Needs.{needs}
 use Prim.Native.Nat.{_≤_, _-_}
 use mathlib.Core.Path.{_≡_}
 use mathlib.Core.Bool.{true}
 use lib.ListN.{length}
 use Rattle.theory.specs.Fold.{allBelow}
 use Rattle.sheet.specs.Form.{placeOf, entryOk}
-use Rattle.sheet.proofs.FormLaws.{contents}
+use Rattle.sheet.proofs.FormLaws.{contents, entries-again, place-again}
 use Rattle.sheet.proofs.form.contents_ok.Statement.{statement}
 use Rattle.sheet.proofs.form.contents_ok.Tie as tie
 
@@ -67,7 +68,12 @@ loop-less : tie.Need-loop-less Inv-loop μ-loop
 loop-less c = search contents
 
 loop-again : tie.Need-loop-again Inv-loop μ-loop
-loop-again c = search contents
+loop-again c =
+    let turn = c .before .before .before .before .before .before .before .loop .inv in
+    (search needs,
+    entries-again _ _ _ _ _ (turn .1) (c .before .before .before .if2 .left) (turn .2) (c .before .before .word .ensures .0)
+    (c .before .if3 .left),
+    place-again _ _ _ _ _ (turn .2) (c .word2 .ensures .0))
 
 returns-4 : tie.Need-returns-4 Inv-loop μ-loop
 returns-4 c = search contents
