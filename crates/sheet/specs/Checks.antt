@@ -6,7 +6,7 @@ use mathlib.Core.List.{List}
 use lib.Dec.{eqb, leb, ltb}
 use lib.ListN.{length, getD}
 use Rattle.theory.specs.Fold.{both, either, allBelow, anyBelow}
-use Rattle.sheet.specs.Limits.{mostPositions, mostActions, mostDelay, mostMoves, mostNodes}
+use Rattle.sheet.specs.Limits.{mostPositions, mostActions, mostDelay, mostMoves, mostNodes, mostPower}
 use Rattle.sheet.specs.Kinds.{knownAt, controllerAt, environmentAt}
 
 -- 2: "positions not 1 to 256, or a P byte over 3"
@@ -67,6 +67,10 @@ allLeave p c u = allBelow (leavesAt p c u) (length p)
 -- the number of document 01's pairs: "positions × A^L", L the delay's half rounded down
 unfoldable pub nodesOf : ℕ → ℕ → ℕ → ℕ
 nodesOf positions actions delay = positions * actions ^ (delay / 2)
+
+-- a power as code has it: cut off where it is more than any size asked about
+unfoldable pub powerTo : ℕ → ℕ → ℕ
+powerTo b e = cond (leb (b ^ e) mostPower) (b ^ e) mostPower
 
 -- 7: "positions × A^L over 16,384"
 unfoldable pub sizeOk : List ℕ → ℕ → ℕ → Bool

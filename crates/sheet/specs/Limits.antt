@@ -24,3 +24,7 @@ mostMoves = 4096
 -- "positions × A^L over 16,384"
 abbrev pub mostNodes : ℕ
 mostNodes = 16384
+
+-- where code cuts powers off, far above the most nodes
+abbrev pub mostPower : ℕ
+mostPower = 65536

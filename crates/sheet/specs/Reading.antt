@@ -67,3 +67,8 @@ readAnswer s =
 abbrev pub meaning : Reading → Answer Layout
 meaning (Accepted l) = accepted l
 meaning (Refused r) = refused (numberOf r)
+
+-- the number alone, 0 where the reading was accepted
+abbrev pub refusalNumber : Reading → ℕ
+refusalNumber (Accepted l) = 0
+refusalNumber (Refused r) = numberOf r

@@ -1,6 +1,25 @@
 // Reading a game sheet: document 01's refusals 1 to 7, in the order written.
 use crate::form::Place;
+use crate::form::body;
+use crate::form::byte;
+use crate::form::contents_ok;
+use crate::form::placed;
+use crate::form::wide;
+use crate::kinds::controller_at;
+use crate::kinds::positions_ok;
+use crate::lines::all_leave;
+use crate::lines::moves_ok;
+use crate::lines::targets_ok;
 use crate::refusal::Refusal;
+use crate::refusal::number;
+use crate::size::size_ok;
+ghost use mathlib.Core.Path.{_≡_};
+ghost use Rattle.sheet.specs.Checks.{headerOk};
+ghost use Rattle.sheet.specs.Reading.{layoutOf, readAnswer, meaning, refusalNumber};
+
+const MOST_ACTIONS: u8 = 8;
+
+const MOST_DELAY: u8 = 6;
 
 // What an accepted reading carries: the start bytes and the places of the bodies.
 pub struct Layout {
@@ -16,4 +35,88 @@ pub struct Layout {
 pub enum Reading {
     Accepted(Layout),
     Refused(Refusal),
+}
+
+// Check 3.
+fn header_ok(p: &[u8], h: &[u8]) -> bool
+    ensures { λ r. ⌜ r ≡ headerOk (now (p .entry)) (now (h .entry)) ⌝ }
+{
+    if h.len() != 3 {
+        return false;
+    }
+    let actions = h[1];
+    if actions < 1 {
+        return false;
+    }
+    if MOST_ACTIONS < actions {
+        return false;
+    }
+    let delay = h[2];
+    if MOST_DELAY < delay {
+        return false;
+    }
+    controller_at(p, wide(h[0]))
+}
+
+fn layout_at(s: &[u8]) -> Layout
+    ensures { λ r. ⌜ r ≡ layoutOf (now (s .entry)) ⌝ }
+{
+    let h = body(s, 0);
+    let start = byte(h, 0);
+    let actions = byte(h, 1);
+    let delay = byte(h, 2);
+    let header = placed(s, 0);
+    let positions = placed(s, 1);
+    let targets = placed(s, 2);
+    let moves = placed(s, 3);
+    Layout {
+        start,
+        actions,
+        delay,
+        header,
+        positions,
+        targets,
+        moves,
+    }
+}
+
+pub fn read(sheet: &[u8]) -> Reading
+    ensures { λ r. ⌜ meaning r ≡ readAnswer (now (sheet .entry)) ⌝ }
+{
+    if !contents_ok(sheet, b"SPCU") {
+        return Reading::Refused(Refusal::Contents);
+    }
+    let p = body(sheet, 1);
+    if !positions_ok(p) {
+        return Reading::Refused(Refusal::Positions);
+    }
+    if !header_ok(p, body(sheet, 0)) {
+        return Reading::Refused(Refusal::Header);
+    }
+    let l = layout_at(sheet);
+    let c = body(sheet, 2);
+    if !targets_ok(p, l.actions, c) {
+        return Reading::Refused(Refusal::Targets);
+    }
+    let u = body(sheet, 3);
+    if !moves_ok(p, u) {
+        return Reading::Refused(Refusal::Moves);
+    }
+    if !all_leave(p, c, u) {
+        return Reading::Refused(Refusal::Stuck);
+    }
+    if !size_ok(p, l.actions, l.delay) {
+        return Reading::Refused(Refusal::Size);
+    }
+    Reading::Accepted(l)
+}
+
+// The number of a reading's refusal, 0 where it was accepted: what `let else` hands on, as its else binds nothing.
+pub fn refusal_number(r: Reading) -> u8
+    ensures { λ n. ⌜ n ≡ refusalNumber r ⌝ }
+{
+    match r {
+        Reading::Accepted(_) => 0,
+        Reading::Refused(refusal) => number(refusal),
+    }
 }

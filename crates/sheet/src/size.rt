@@ -1,1 +1,36 @@
-// to come
+// How many words and nodes there are: check 7.
+use crate::form::wide;
+ghost use mathlib.Core.Path.{_≡_};
+ghost use Prim.Native.Nat.{_≤_};
+ghost use lib.ListN.{length};
+ghost use Rattle.sheet.specs.Limits.{mostPositions};
+ghost use Rattle.sheet.specs.Checks.{powerTo, sizeOk};
+
+const MOST_NODES: usize = 16384;
+
+const MOST_POWER: usize = 65536;
+
+// A power, or 65,536 where it is more: then no product wraps, for any base and exponent.
+pub fn power(base: u8, exponent: usize) -> usize
+    ensures { λ r. ⌜ (r ≡ powerTo base exponent) × (r ≤ 65536) ⌝ }
+{
+    let mut r: usize = 1;
+    let mut i: usize = 0;
+    while i < exponent {
+        r = r * wide(base);
+        if MOST_POWER < r {
+            return MOST_POWER;
+        }
+        i += 1;
+    }
+    r
+}
+
+// Check 7.
+pub(crate) fn size_ok(p: &[u8], actions: u8, delay: u8) -> bool
+    requires { ⌜ length (now p) ≤ mostPositions ⌝ }
+    ensures { λ r. ⌜ r ≡ sizeOk (now (p .entry)) actions delay ⌝ }
+{
+    let words = power(actions, wide(delay) / 2);
+    p.len() * words <= MOST_NODES
+}
