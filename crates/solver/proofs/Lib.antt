@@ -1,0 +1,1 @@
+-- Laws of the definitions of specs/, on which the proofs of the functions rest.
