@@ -104,6 +104,11 @@ pub texts-none : (f : ℕ → List ℕ) (k : ℕ) → textsFrom f k 0 ≡ []
 unfolding textsFrom
 texts-none f k = refl
 
+pub texts-same : (f g : ℕ → List ℕ) (k n : ℕ) → ((i : ℕ) → f i ≡ g i) → textsFrom f k n ≡ textsFrom g k n
+unfolding textsFrom
+texts-same f g k zero h = refl
+texts-same f g k (suc n) h = ap (λ t. t ++ textsFrom f (suc k) n) (h k) ∙ ap (λ t. g k ++ t) (texts-same f g (suc k) n h)
+
 pub texts-start : (f : ℕ → List ℕ) (p : Page) (n : ℕ) → puts p (textsFrom f 0 n) ≡ puts p (textsFrom f 0 (n - 0))
 texts-start f p n = let e : n ≡ n - 0 = omega arith in ap (λ m. puts p (textsFrom f 0 m)) e
 

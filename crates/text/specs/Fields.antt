@@ -27,6 +27,10 @@ setText a mask = textsFrom (actionText mask) 0 a
 unfoldable pub fieldText : List ℕ → ℕ → List ℕ
 fieldText name n = name ++ decimalOf n
 
--- "pair ", " " and what stands between and after them
+-- "pair "
+abbrev pub pairName : List ℕ
+pairName = 112 ∷ 97 ∷ 105 ∷ 114 ∷ 32 ∷ []
+
+-- "pair POSITION WORD", of the node k
 unfoldable pub nodeText : ℕ → ℕ → ℕ → List ℕ
-nodeText a l k = fieldText (112 ∷ 97 ∷ 105 ∷ 114 ∷ 32 ∷ []) (k / a ^ l) ++ ((32 ∷ []) ++ wordText a l (k % a ^ l))
+nodeText a l k = fieldText pairName (k / a ^ l) ++ ((32 ∷ []) ++ wordText a l (k % a ^ l))

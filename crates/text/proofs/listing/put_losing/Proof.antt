@@ -1,24 +1,20 @@
+-- `put_losing` meets its contract. Assumes nothing.
+use Rattle.text.specs.Lines.{losingLine}
 use borrow.Author.Needs.{needs}
 use Rattle.text.proofs.listing.put_losing.Statement.{statement}
 use Rattle.text.proofs.listing.put_losing.Tie as tie
-use Rattle.text.proofs.listing.put_losing.Reads as reads
-use Rattle.text.proofs.listing.put_losing.Lts as lts
-use Rattle.text.proofs.listing.put_field_line.Reads as put-field-line-reads
 
--- src/listing.rt:35:29
 slice-aggregate-put-field-line : tie.Need-slice-aggregate-put-field-line
 slice-aggregate-put-field-line c = search needs
 
--- src/listing.rt:35:5
 put-field-line-requires : tie.Need-put-field-line-requires
 put-field-line-requires c κs = search needs
 
--- src/listing.rt:32:1
 same-length : tie.Need-same-length
 same-length c = search needs
 
--- src/listing.rt:32:1
 returns : tie.Need-returns
+unfolding losingLine
 returns c = search needs
 
 pub put-losing-spec : {M : Type 1} → statement M
