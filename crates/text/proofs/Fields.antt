@@ -19,7 +19,7 @@ use Rattle.theory.specs.Words.{digit}
 use Rattle.theory.specs.Table.{bit}
 use Rattle.text.specs.Page.{Page, puts, textsFrom}
 use Rattle.text.specs.Numbers.{glyph, decimalOf}
-use Rattle.text.specs.Fields.{digitText, wordText, actionText, setText, fieldText, pairName, nodeText}
+use Rattle.text.specs.Fields.{digitText, wordText, actionText, setText, fieldText, pairName, positionText, nodeText}
 use Rattle.text.proofs.Page.{after, puts-nil, texts-same, length-texts}
 use Rattle.text.proofs.Numbers.{length-decimal}
 
@@ -167,17 +167,20 @@ pub field-is : (name : List ℕ) (n : ℕ) (p : Page) {q r : Page} → q ≡ put
 unfolding fieldText
 field-is name n p e f = after p name (decimalOf n) e f
 
-pub node-is : (a l k : ℕ) (p : Page) {n : ℕ} {q r s : Page} → n ≡ k / a ^ l → q ≡ puts p (fieldText pairName n)
-  → r ≡ puts q (32 ∷ []) → s ≡ puts r (wordText a l k) → s ≡ puts p (nodeText a l k)
+pub position-is : (a l k : ℕ) (p : Page) {n : ℕ} {q r : Page} → n ≡ k / a ^ l → q ≡ puts p (fieldText pairName n)
+  → r ≡ puts q (32 ∷ []) → r ≡ puts p (positionText a l k)
+unfolding positionText
+position-is a l k p {n} h e f =
+    after p (fieldText pairName n) (32 ∷ []) e f ∙ ap (λ x. puts p (fieldText pairName x ++ (32 ∷ []))) h
+
+pub node-is : (a l k : ℕ) (p : Page) {q r : Page} → q ≡ puts p (positionText a l k) → r ≡ puts q (wordText a l k) → r ≡ puts p (nodeText a l k)
 unfolding nodeText
-node-is a l k p {n} {q} h e f g =
-    after p (fieldText pairName n) ((32 ∷ []) ++ wordText a l k) e (after q (32 ∷ []) (wordText a l k) f g)
-    ∙ ap (λ x. puts p (fieldText pairName x ++ ((32 ∷ []) ++ wordText a l k))) h
-    ∙ ap (λ x. puts p (fieldText pairName (k / a ^ l) ++ ((32 ∷ []) ++ x))) (sym (word-last a l k))
+node-is a l k p e f =
+    after p (positionText a l k) (wordText a l k) e f ∙ ap (λ x. puts p (positionText a l k ++ x)) (sym (word-last a l k))
 
 pub ruleset digit-laws = (needs, digit-text, word-empty)
 pub ruleset mask-laws = (needs, bit-is, action-in, action-out)
-pub ruleset field-laws = (needs, field-is, node-is)
+pub ruleset field-laws = (needs, field-is, position-is, node-is)
 
 -- lengths
 
@@ -212,8 +215,8 @@ length-field name n k h = let e : length (decimalOf n) ≤ suc k = length-decima
 
 -- a position of d + 1 digits and a word of at most w actions
 pub length-node : (a l k d w : ℕ) → k / a ^ l < 10 ^ suc d → 1 ≤ w → l ≤ w → length (nodeText a l k) ≤ 7 + d + w
-unfolding nodeText
+unfolding nodeText positionText
 length-node a l k d w h g i =
     let x : length (fieldText pairName (k / a ^ l)) ≤ 5 + suc d = length-field pairName (k / a ^ l) d h in
     let y : length (wordText a l (k % a ^ l)) ≤ w = length-word a l (k % a ^ l) w g i in
-    rw length-append (omega arith)
+    simp length-append (omega arith)

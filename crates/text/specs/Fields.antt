@@ -31,6 +31,10 @@ fieldText name n = name ++ decimalOf n
 abbrev pub pairName : List ℕ
 pairName = 112 ∷ 97 ∷ 105 ∷ 114 ∷ 32 ∷ []
 
+-- "pair POSITION ", of the node k
+unfoldable pub positionText : ℕ → ℕ → ℕ → List ℕ
+positionText a l k = fieldText pairName (k / a ^ l) ++ (32 ∷ [])
+
 -- "pair POSITION WORD", of the node k
 unfoldable pub nodeText : ℕ → ℕ → ℕ → List ℕ
-nodeText a l k = fieldText pairName (k / a ^ l) ++ ((32 ∷ []) ++ wordText a l (k % a ^ l))
+nodeText a l k = positionText a l k ++ wordText a l (k % a ^ l)

@@ -5,7 +5,7 @@ ghost use mathlib.Core.Path.{_≡_};
 ghost use Prim.Native.Nat.{_<_};
 ghost use lib.ListN.{length};
 ghost use Rattle.text.specs.Page.{page, puts};
-ghost use Rattle.text.specs.Fields.{fieldText, nodeText};
+ghost use Rattle.text.specs.Fields.{fieldText, positionText, nodeText};
 ghost use Rattle.text.specs.Lines.{fieldLine, refusedLine, losingLine, winningLine, headLine, startLine, allowLine, rankLine};
 ghost use Rattle.text.specs.Lines.{startAt, startLines, allowAt, allowLines, rankAt, rankLines};
 
@@ -58,13 +58,19 @@ pub fn put_start(out: &mut [u8], at: usize, actions: usize, count: usize, word: 
     put_byte(out, end, b'\n')
 }
 
+fn put_position(out: &mut [u8], at: usize, actions: usize, count: usize, node: usize) -> usize
+    ensures { λ r. ⌜ page (now (out .exit)) r ≡ puts (page (now (out .entry)) at) (positionText actions count node) ⌝ }
+{
+    let to = put_field(out, at, b"pair ", without_last(node, actions, count));
+    put_byte(out, to, b' ')
+}
+
 // Of the node's number the last digits are its word, so `put_word` is given the number itself.
 fn put_node(out: &mut [u8], at: usize, actions: usize, count: usize, node: usize) -> usize
     ensures { λ r. ⌜ page (now (out .exit)) r ≡ puts (page (now (out .entry)) at) (nodeText actions count node) ⌝ }
 {
-    let space = put_field(out, at, b"pair ", without_last(node, actions, count));
-    let w = put_byte(out, space, b' ');
-    put_word(out, w, actions, count, node)
+    let to = put_position(out, at, actions, count, node);
+    put_word(out, to, actions, count, node)
 }
 
 pub fn put_allow(out: &mut [u8], at: usize, actions: usize, count: usize, node: usize, mask: usize) -> usize
