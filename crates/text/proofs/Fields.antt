@@ -17,9 +17,10 @@ use borrow.Author.Tests.{lt-ltb, le-ltb, eq-eqb, ne-eqb}
 use Rattle.theory.proofs.Fold.{below?, bool}
 use Rattle.theory.specs.Words.{digit}
 use Rattle.theory.specs.Table.{bit}
+use Rattle.text.specs.Ascii.{ascii}
 use Rattle.text.specs.Page.{Page, puts, textsFrom}
 use Rattle.text.specs.Numbers.{glyph, decimalOf}
-use Rattle.text.specs.Fields.{digitText, wordText, actionText, setText, fieldText, pairName, positionText, nodeText}
+use Rattle.text.specs.Fields.{digitText, wordText, actionText, setText, fieldText, positionText, nodeText}
 use Rattle.text.proofs.Page.{after, puts-nil, texts-same, length-texts}
 use Rattle.text.proofs.Numbers.{length-decimal}
 
@@ -134,7 +135,7 @@ digit-last a l v i = ap (λ d. glyph d ∷ []) (last-digit a l v i)
 
 pub word-last : (a l v : ℕ) → wordText a l (v % a ^ l) ≡ wordText a l v
 unfolding wordText
-word-last a l v = ap (cond (eqb l 0) (45 ∷ [])) (texts-same _ _ 0 l (λ i. digit-last a l v i))
+word-last a l v = ap (cond (eqb l 0) (ascii "-")) (texts-same _ _ 0 l (λ i. digit-last a l v i))
 
 -- as the code asks them
 
@@ -143,7 +144,7 @@ pub digit-text : (a l v i : ℕ) (p : Page) {s d : ℕ} {q : Page} → i < l →
 unfolding digitText
 digit-text a l v i p h e f g = g ∙ ap (λ d. puts p (glyph d ∷ [])) (f ∙ ap (λ s. s % a) e ∙ sym (digit-is a l v i h))
 
-pub word-empty : (a l v : ℕ) (p : Page) {q : Page} → l ≡ 0 → q ≡ puts p (45 ∷ []) → q ≡ puts p (wordText a l v)
+pub word-empty : (a l v : ℕ) (p : Page) {q : Page} → l ≡ 0 → q ≡ puts p (ascii "-") → q ≡ puts p (wordText a l v)
 unfolding wordText
 word-empty a l v p e g = simp (eq-eqb l 0 e) g
 
@@ -167,11 +168,11 @@ pub field-is : (name : List ℕ) (n : ℕ) (p : Page) {q r : Page} → q ≡ put
 unfolding fieldText
 field-is name n p e f = after p name (decimalOf n) e f
 
-pub position-is : (a l k : ℕ) (p : Page) {n : ℕ} {q r : Page} → n ≡ k / a ^ l → q ≡ puts p (fieldText pairName n)
-  → r ≡ puts q (32 ∷ []) → r ≡ puts p (positionText a l k)
+pub position-is : (a l k : ℕ) (p : Page) {n : ℕ} {q r : Page} → n ≡ k / a ^ l → q ≡ puts p (fieldText (ascii "pair ") n)
+  → r ≡ puts q (ascii " ") → r ≡ puts p (positionText a l k)
 unfolding positionText
 position-is a l k p {n} h e f =
-    after p (fieldText pairName n) (32 ∷ []) e f ∙ ap (λ x. puts p (fieldText pairName x ++ (32 ∷ []))) h
+    after p (fieldText (ascii "pair ") n) (ascii " ") e f ∙ ap (λ x. puts p (fieldText (ascii "pair ") x ++ (ascii " "))) h
 
 pub node-is : (a l k : ℕ) (p : Page) {q r : Page} → q ≡ puts p (positionText a l k) → r ≡ puts q (wordText a l k) → r ≡ puts p (nodeText a l k)
 unfolding nodeText
@@ -217,6 +218,6 @@ length-field name n k h = let e : length (decimalOf n) ≤ suc k = length-decima
 pub length-node : (a l k d w : ℕ) → k / a ^ l < 10 ^ suc d → 1 ≤ w → l ≤ w → length (nodeText a l k) ≤ 7 + d + w
 unfolding nodeText positionText
 length-node a l k d w h g i =
-    let x : length (fieldText pairName (k / a ^ l)) ≤ 5 + suc d = length-field pairName (k / a ^ l) d h in
+    let x : length (fieldText (ascii "pair ") (k / a ^ l)) ≤ 5 + suc d = length-field (ascii "pair ") (k / a ^ l) d h in
     let y : length (wordText a l (k % a ^ l)) ≤ w = length-word a l (k % a ^ l) w g i in
     simp length-append (omega arith)

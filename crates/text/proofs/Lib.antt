@@ -3,3 +3,5 @@ pub mod Page
 pub mod Numbers
 pub mod Fields
 pub mod Lines
+pub mod Sizes
+mod Cases

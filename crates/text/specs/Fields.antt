@@ -6,6 +6,7 @@ use mathlib.Core.List.{List, [], _∷_, _++_}
 use lib.Dec.{eqb}
 use Rattle.theory.specs.Words.{digit}
 use Rattle.theory.specs.Table.{bit}
+use Rattle.text.specs.Ascii.{ascii}
 use Rattle.text.specs.Page.{textsFrom}
 use Rattle.text.specs.Numbers.{glyph, decimalOf}
 
@@ -14,7 +15,7 @@ digitText a l v i = glyph (digit a l v i) ∷ []
 
 -- the word v of l actions out of a: digits without a gap, oldest first; "the empty word is `-`"
 unfoldable pub wordText : ℕ → ℕ → ℕ → List ℕ
-wordText a l v = cond (eqb l 0) (45 ∷ []) (textsFrom (digitText a l v) 0 l)
+wordText a l v = cond (eqb l 0) (ascii "-") (textsFrom (digitText a l v) 0 l)
 
 unfoldable pub actionText : ℕ → ℕ → List ℕ
 actionText mask c = cond (bit mask c) (glyph c ∷ []) []
@@ -27,13 +28,9 @@ setText a mask = textsFrom (actionText mask) 0 a
 unfoldable pub fieldText : List ℕ → ℕ → List ℕ
 fieldText name n = name ++ decimalOf n
 
--- "pair "
-abbrev pub pairName : List ℕ
-pairName = 112 ∷ 97 ∷ 105 ∷ 114 ∷ 32 ∷ []
-
 -- "pair POSITION ", of the node k
 unfoldable pub positionText : ℕ → ℕ → ℕ → List ℕ
-positionText a l k = fieldText pairName (k / a ^ l) ++ (32 ∷ [])
+positionText a l k = fieldText (ascii "pair ") (k / a ^ l) ++ ascii " "
 
 -- "pair POSITION WORD", of the node k
 unfoldable pub nodeText : ℕ → ℕ → ℕ → List ℕ

@@ -4,68 +4,42 @@ use mathlib.Core.Bool.{cond}
 use mathlib.Core.List.{List, [], _∷_, _++_}
 use lib.Dec.{eqb}
 use lib.ListN.{length, getD}
+use Rattle.text.specs.Ascii.{ascii}
 use Rattle.text.specs.Page.{textsFrom}
 use Rattle.text.specs.Fields.{wordText, setText, fieldText, nodeText}
 
--- the words of the lines, with their spaces
-abbrev pub refusedName : List ℕ   -- "refused "
-refusedName = 114 ∷ 101 ∷ 102 ∷ 117 ∷ 115 ∷ 101 ∷ 100 ∷ 32 ∷ []
-
-abbrev pub losingName : List ℕ   -- "losing "
-losingName = 108 ∷ 111 ∷ 115 ∷ 105 ∷ 110 ∷ 103 ∷ 32 ∷ []
-
-abbrev pub lagName : List ℕ   -- "lag "
-lagName = 108 ∷ 97 ∷ 103 ∷ 32 ∷ []
-
-abbrev pub positionsName : List ℕ   -- " positions "
-positionsName = 32 ∷ 112 ∷ 111 ∷ 115 ∷ 105 ∷ 116 ∷ 105 ∷ 111 ∷ 110 ∷ 115 ∷ 32 ∷ []
-
-abbrev pub commandsName : List ℕ   -- " commands "
-commandsName = 32 ∷ 99 ∷ 111 ∷ 109 ∷ 109 ∷ 97 ∷ 110 ∷ 100 ∷ 115 ∷ 32 ∷ []
-
-abbrev pub startName : List ℕ   -- "start "
-startName = 115 ∷ 116 ∷ 97 ∷ 114 ∷ 116 ∷ 32 ∷ []
-
-abbrev pub allowName : List ℕ   -- " allow "
-allowName = 32 ∷ 97 ∷ 108 ∷ 108 ∷ 111 ∷ 119 ∷ 32 ∷ []
-
-abbrev pub rankName : List ℕ   -- " rank "
-rankName = 32 ∷ 114 ∷ 97 ∷ 110 ∷ 107 ∷ 32 ∷ []
-
 -- a line of one named number
 unfoldable pub fieldLine : List ℕ → ℕ → List ℕ
-fieldLine name n = fieldText name n ++ (10 ∷ [])
+fieldLine name n = fieldText name n ++ ascii "\n"
 
 -- "refused N"
 unfoldable pub refusedLine : ℕ → List ℕ
-refusedLine n = fieldLine refusedName n
+refusedLine n = fieldLine (ascii "refused ") n
 
 -- "losing M"
 unfoldable pub losingLine : ℕ → List ℕ
-losingLine m = fieldLine losingName m
+losingLine m = fieldLine (ascii "losing ") m
 
 -- "winning"
 unfoldable pub winningLine : List ℕ
-winningLine = 119 ∷ 105 ∷ 110 ∷ 110 ∷ 105 ∷ 110 ∷ 103 ∷ 10 ∷ []
+winningLine = ascii "winning\n"
 
 -- "lag D positions P commands A"
 unfoldable pub headLine : ℕ → ℕ → ℕ → List ℕ
 headLine d p a =
-    fieldText lagName d
-    ++ (fieldText positionsName p
-    ++ fieldLine commandsName a)
+    fieldText (ascii "lag ") d ++ (fieldText (ascii " positions ") p ++ fieldLine (ascii " commands ") a)
 
 -- "start WORD", of the word v of l actions
 unfoldable pub startLine : ℕ → ℕ → ℕ → List ℕ
-startLine a l v = startName ++ (wordText a l v ++ (10 ∷ []))
+startLine a l v = ascii "start " ++ (wordText a l v ++ ascii "\n")
 
 -- "pair POSITION WORD allow ACTIONS", of the node k
 unfoldable pub allowLine : ℕ → ℕ → ℕ → ℕ → List ℕ
-allowLine a l k mask = nodeText a l k ++ (allowName ++ (setText a mask ++ (10 ∷ [])))
+allowLine a l k mask = nodeText a l k ++ (ascii " allow " ++ (setText a mask ++ ascii "\n"))
 
 -- "pair POSITION WORD rank ROUND", of the node k
 unfoldable pub rankLine : ℕ → ℕ → ℕ → ℕ → List ℕ
-rankLine a l k rank = nodeText a l k ++ fieldLine rankName rank
+rankLine a l k rank = nodeText a l k ++ fieldLine (ascii " rank ") rank
 
 -- a line for each initial word with the flag 1
 unfoldable pub startAt : ℕ → ℕ → List ℕ → ℕ → List ℕ

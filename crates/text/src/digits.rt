@@ -71,7 +71,8 @@ fn put_digit(out: &mut [u8], at: usize, actions: usize, count: usize, word: usiz
     requires { ⌜ i < count ⌝ }
     ensures { λ r. ⌜ page (now (out .exit)) r ≡ puts (page (now (out .entry)) at) (digitText actions count word i) ⌝ }
 {
-    let shown = without_last(word, actions, count - 1 - i);
+    let younger = count - 1 - i;
+    let shown = without_last(word, actions, younger);
     put_glyph(out, at, remainder(shown, actions))
 }
 

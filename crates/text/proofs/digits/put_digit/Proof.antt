@@ -4,11 +4,11 @@ use borrow.Author.Needs.{needs}
 use Rattle.text.proofs.digits.put_digit.Statement.{statement}
 use Rattle.text.proofs.digits.put_digit.Tie as tie
 
-sub-without-last : tie.Need-sub-without-last
-sub-without-last c = search needs
+sub-younger : tie.Need-sub-younger
+sub-younger c = search needs
 
-sub-without-last-2 : tie.Need-sub-without-last-2
-sub-without-last-2 c = search needs
+sub-younger-2 : tie.Need-sub-younger-2
+sub-younger-2 c = search needs
 
 without-last-requires : tie.Need-without-last-requires
 without-last-requires c κs = search needs
@@ -29,8 +29,8 @@ pub put-digit-spec : {M : Type 1} → statement M
 put-digit-spec =
     tie.close
     (tie.spec
-    sub-without-last
-    sub-without-last-2
+    sub-younger
+    sub-younger-2
     without-last-requires
     remainder-requires
     put-glyph-requires
