@@ -9,7 +9,6 @@ use native.Mathlib.Omega.{arith}
 use native.Mathlib.Nat.{pow-suc, pow-zero, pow-succ', one-le-pow, mul-zero, mul-pos, mul-assoc}
 use native.Mathlib.Nat.{div-one, div-zero, div-add-mod', div-lt-iff-lt-mul, div-div-eq-div-mul, mul-add-div-right}
 use native.Mathlib.Nat.{mod-zero, zero-mod, mod-lt, mod-eq-of-lt, mod-mod-of-dvd, mul-add-mod-self-right, dvd-mul-left}
-use native.Mathlib.Numerals.{add-one}
 use lib.Dec.{eqb, eqb·suc-zero}
 use lib.ListN.{length, length-append}
 use borrow.Author.Needs.{needs}
@@ -38,7 +37,7 @@ pub last-start : (n base count : ℕ) → n / base ^ count ≡ n / base ^ (count
 last-start n base count = let e : count ≡ count - 0 = omega arith in ap (λ m. n / base ^ m) e
 
 pub last-again : (base count k : ℕ) (rest : ℕ) {n next : ℕ} → k < count
-  → n ≡ rest / base ^ (count - k) → next ≡ rest / base → n ≡ next / base ^ (count - (k + 1))
+    → n ≡ rest / base ^ (count - k) → next ≡ rest / base → n ≡ next / base ^ (count - (k + 1))
 last-again base count k rest h e g =
     let m : count - k ≡ suc (count - (k + 1)) = omega arith in
     e
@@ -140,7 +139,7 @@ word-last a l v = ap (cond (eqb l 0) (ascii "-")) (texts-same _ _ 0 l (λ i. dig
 -- as the code asks them
 
 pub digit-text : (a l v i : ℕ) (p : Page) {s d : ℕ} {q : Page} → i < l → s ≡ v / a ^ (l - 1 - i) → d ≡ s % a
-  → q ≡ puts p (glyph d ∷ []) → q ≡ puts p (digitText a l v i)
+    → q ≡ puts p (glyph d ∷ []) → q ≡ puts p (digitText a l v i)
 unfolding digitText
 digit-text a l v i p h e f g = g ∙ ap (λ d. puts p (glyph d ∷ [])) (f ∙ ap (λ s. s % a) e ∙ sym (digit-is a l v i h))
 
@@ -169,7 +168,7 @@ unfolding fieldText
 field-is name n p e f = after p name (decimalOf n) e f
 
 pub position-is : (a l k : ℕ) (p : Page) {n : ℕ} {q r : Page} → n ≡ k / a ^ l → q ≡ puts p (fieldText (ascii "pair ") n)
-  → r ≡ puts q (ascii " ") → r ≡ puts p (positionText a l k)
+    → r ≡ puts q (ascii " ") → r ≡ puts p (positionText a l k)
 unfolding positionText
 position-is a l k p {n} h e f =
     after p (fieldText (ascii "pair ") n) (ascii " ") e f ∙ ap (λ x. puts p (fieldText (ascii "pair ") x ++ (ascii " "))) h
@@ -180,7 +179,9 @@ node-is a l k p e f =
     after p (positionText a l k) (wordText a l k) e f ∙ ap (λ x. puts p (positionText a l k ++ x)) (sym (word-last a l k))
 
 pub ruleset digit-laws = (needs, digit-text, word-empty)
+
 pub ruleset mask-laws = (needs, bit-is, action-in, action-out)
+
 pub ruleset field-laws = (needs, field-is, position-is, node-is)
 
 -- lengths

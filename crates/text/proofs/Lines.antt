@@ -3,7 +3,7 @@ use Prim.Native.Nat.{ℕ, suc, _+_, _*_, _/_, _^_, _≤_, _<_}
 use mathlib.Core.Path.{_≡_, refl, sym, _∙_}
 use mathlib.Core.Bool.{true, false}
 use mathlib.Core.Logic.{⊎-elim}
-use mathlib.Core.List.{List, [], _∷_, _++_}
+use mathlib.Core.List.{List, _++_}
 use native.Mathlib.Omega.{arith}
 use native.Mathlib.Nat.{div-lt-iff-lt-mul, one-le-pow, lt-of-lt-of-le}
 use lib.Dec.{eqb}
@@ -24,20 +24,20 @@ unfolding fieldLine
 field-line name n p e f = after p (fieldText name n) (ascii "\n") e f
 
 pub head-is : (d n a : ℕ) (p : Page) {q r s : Page} → q ≡ puts p (fieldText (ascii "lag ") d) → r ≡ puts q (fieldText (ascii " positions ") n)
-  → s ≡ puts r (fieldLine (ascii " commands ") a) → s ≡ puts p (headLine d n a)
+    → s ≡ puts r (fieldLine (ascii " commands ") a) → s ≡ puts p (headLine d n a)
 unfolding headLine
 head-is d n a p {q} e f g =
     after p (fieldText (ascii "lag ") d) (fieldText (ascii " positions ") n ++ fieldLine (ascii " commands ") a) e
     (after q (fieldText (ascii " positions ") n) (fieldLine (ascii " commands ") a) f g)
 
 pub start-is : (a l v : ℕ) (p : Page) {q r s : Page} → q ≡ puts p (ascii "start ") → r ≡ puts q (wordText a l v)
-  → s ≡ puts r (ascii "\n") → s ≡ puts p (startLine a l v)
+    → s ≡ puts r (ascii "\n") → s ≡ puts p (startLine a l v)
 unfolding startLine
 start-is a l v p {q} e f g =
     after p (ascii "start ") (wordText a l v ++ (ascii "\n")) e (after q (wordText a l v) (ascii "\n") f g)
 
 pub allow-is : (a l k mask : ℕ) (p : Page) {q r s t : Page} → q ≡ puts p (nodeText a l k) → r ≡ puts q (ascii " allow ")
-  → s ≡ puts r (setText a mask) → t ≡ puts s (ascii "\n") → t ≡ puts p (allowLine a l k mask)
+    → s ≡ puts r (setText a mask) → t ≡ puts s (ascii "\n") → t ≡ puts p (allowLine a l k mask)
 unfolding allowLine
 allow-is a l k mask p {q} {r} e f g h =
     after p (nodeText a l k) ((ascii " allow ") ++ (setText a mask ++ (ascii "\n"))) e
@@ -152,7 +152,7 @@ length-allow-at a l masks k d w h g i =
     (bool (eqb (getD masks k 0) 0))
 
 length-rank-at : (a l : ℕ) (ranks : List ℕ) (k d w j : ℕ) → k / a ^ l < 10 ^ suc d → 1 ≤ w → l ≤ w → getD ranks k 0 < 10 ^ suc j
-  → length (rankAt a l ranks k) ≤ 15 + d + w + j
+    → length (rankAt a l ranks k) ≤ 15 + d + w + j
 unfolding rankAt
 length-rank-at a l ranks k d w j h g i q =
     ⊎-elim

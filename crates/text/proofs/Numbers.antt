@@ -10,9 +10,9 @@ use lib.ListN.{length, getD, length-append}
 use borrow.Author.Needs.{needs}
 use borrow.Author.Tests.{lt-ltb, le-ltb}
 use Rattle.theory.proofs.Fold.{below?}
-use Rattle.text.specs.Page.{Page, puts, textsFrom}
+use Rattle.text.specs.Page.{Page, puts}
 use Rattle.text.specs.Numbers.{glyph, decimalBy, decimalOf, bytesOf, shortAt, shortsText}
-use Rattle.text.proofs.Page.{after, length-texts}
+use Rattle.text.proofs.Page.{after, length-all}
 
 pub glyph-digit : (d : ℕ) → d < 10 → 48 + d ≡ glyph d
 unfolding glyph
@@ -70,6 +70,10 @@ number-more n p h e f = after p (decimalOf (n / 10)) (glyph (n % 10) ∷ []) e f
 
 -- bytes
 
+pub bytes-two : (n : ℕ) → bytesOf 2 n ≡ n % 256 ∷ n / 256 % 256 ∷ []
+unfolding bytesOf
+bytes-two n = refl
+
 pub bytes2-is : (n : ℕ) (p : Page) {x y : ℕ} {q r : Page} → x ≡ n % 256 → q ≡ puts p (x ∷ []) → y ≡ n / 256 % 256 → r ≡ puts q (y ∷ []) → r ≡ puts p (bytesOf 2 n)
 unfolding bytesOf
 bytes2-is n p {x} {y} a e b f = after p (x ∷ []) (y ∷ []) e f ∙ ap (λ u. puts p (u ∷ y ∷ [])) a ∙ ap (λ u. puts p (n % 256 ∷ u ∷ [])) b
@@ -98,10 +102,10 @@ unfolding bytesOf
 length-bytes zero n = refl
 length-bytes (suc w) n = ap suc (length-bytes w (n / 256))
 
-length-short : (xs : List ℕ) (k : ℕ) → length (shortAt xs k) ≤ 2
+length-short : (xs : List ℕ) (k : ℕ) → length (shortAt xs k) ≡ 2
 unfolding shortAt
-length-short xs k = rw length-bytes (omega arith)
+length-short xs k = length-bytes 2 (getD xs k 0)
 
-pub length-shorts : (xs : List ℕ) → length (shortsText xs) ≤ length xs * 2
+pub length-shorts : (xs : List ℕ) → length (shortsText xs) ≡ length xs * 2
 unfolding shortsText
-length-shorts xs = length-texts (shortAt xs) 0 (length xs) 2 (λ i l g. length-short xs i)
+length-shorts xs = length-all (shortAt xs) 0 (length xs) 2 (length-short xs)

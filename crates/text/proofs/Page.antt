@@ -1,13 +1,11 @@
 -- Laws of specs/Page.antt: writing composes, and a text that fits stands whole on the page. Assumes nothing.
 use Prim.Native.Nat.{ℕ, zero, suc, _+_, _-_, _*_, _≤_, _<_}
 use mathlib.Core.Path.{_≡_, refl, sym, ap, _∙_}
-use mathlib.Core.Bool.{Bool, true, false}
 use mathlib.Core.Logic.{⊎-elim}
-use mathlib.Core.List.{List, [], _∷_, _++_, append-assoc}
+use mathlib.Core.List.{List, [], _∷_, _++_}
 use native.Mathlib.Omega.{arith}
 use native.Mathlib.Numerals.{add-one}
 use native.Mathlib.Nat.{suc-mul}
-use lib.Dec.{ltb}
 use lib.ListN.{length, take, drop, set, getD, length-set, length-append}
 use lib.Seq.{sets, sets-eq, drop-cons, drop-length}
 use borrow.Author.Needs.{needs}
@@ -56,7 +54,7 @@ puts-sets (b ∷ t) l n h =
 
 -- it stands there whole; what lies before and beyond is untouched
 pub written-at : (t l : List ℕ) (n : ℕ) → n + length t ≤ length l
-  → puts (page l n) t ≡ page (take n l ++ t ++ drop (n + length t) l) (n + length t)
+    → puts (page l n) t ≡ page (take n l ++ t ++ drop (n + length t) l) (n + length t)
 written-at t l n h = puts-sets t l n h ∙ ap (λ s. page s (n + length t)) (sets-eq t l n h)
 
 pub written : (t l : List ℕ) → length t ≤ length l → puts (page l 0) t ≡ page (t ++ drop (length t) l) (length t)
@@ -94,6 +92,13 @@ puts-within (b ∷ t) p h =
     let e = put-length (p .bytes) (p .at) b in
     rw e at (puts-within t (put p b) (rw e (put-within (p .bytes) (p .at) b h)))
 
+-- the place that a writer returns is within the buffer
+pub place-within : (t l l′ : List ℕ) (at r : ℕ) → at ≤ length l → page l′ r ≡ puts (page l at) t → r ≤ length l′
+place-within t l l′ at r h e =
+    let a : r ≡ puts (page l at) t .at = ap (λ p. p .at) e in
+    let b : length l′ ≡ length l = ap (λ p. length (p .bytes)) e ∙ puts-length t (page l at) in
+    rw (a, b) (puts-within t (page l at) h)
+
 -- many texts, one after the other
 
 texts-suc : (f : ℕ → List ℕ) (k n : ℕ) → textsFrom f k (suc n) ≡ f k ++ textsFrom f (suc k) n
@@ -114,7 +119,7 @@ texts-start f p n = let e : n ≡ n - 0 = omega arith in ap (λ m. puts p (texts
 
 -- the next turn of a loop: what was left at k is written, and the rest is left
 pub texts-again : (f : ℕ → List ℕ) (k n : ℕ) (p : Page) {q w : Page} → k < n
-  → w ≡ puts p (textsFrom f k (n - k)) → q ≡ puts p (f k) → w ≡ puts q (textsFrom f (k + 1) (n - (k + 1)))
+    → w ≡ puts p (textsFrom f k (n - k)) → q ≡ puts p (f k) → w ≡ puts q (textsFrom f (k + 1) (n - (k + 1)))
 texts-again f k n p {q} h e g =
     let m : n - k ≡ suc (n - (k + 1)) = omega arith in
     e
@@ -138,8 +143,11 @@ Along f n out₀ at out to k =
 
 -- as the code asks them: a byte; the begin, the next turn and the end of a loop
 pub ruleset byte-laws = (needs, byte-in, byte-out)
+
 pub ruleset begins = (needs, texts-start)
+
 pub ruleset goes-on = (needs, texts-again)
+
 pub ruleset ends = (needs, texts-done)
 
 -- a list is its bytes, one after the other
@@ -165,6 +173,13 @@ pub text-is : (t : List ℕ) (p : Page) {q : Page} → q ≡ puts p (textsFrom (
 text-is t p e = e ∙ ap (puts p) (bytes-all t)
 
 -- lengths
+
+pub length-all : (f : ℕ → List ℕ) (k n b : ℕ) → ((i : ℕ) → length (f i) ≡ b) → length (textsFrom f k n) ≡ n * b
+length-all f k zero b h = rw texts-none (omega arith)
+length-all f k (suc n) b h =
+    let x : length (f k) ≡ b = h k in
+    let y : length (textsFrom f (suc k) n) ≡ n * b = length-all f (suc k) n b h in
+    rw (texts-suc f k n, length-append, suc-mul) (omega arith)
 
 pub length-texts : (f : ℕ → List ℕ) (k n b : ℕ) → ((i : ℕ) → k ≤ i → i < k + n → length (f i) ≤ b) → length (textsFrom f k n) ≤ n * b
 length-texts f k zero b h = rw texts-none (omega arith)

@@ -1,6 +1,6 @@
 -- How long the listing's texts are at document 01's sizes: at most 256 positions, 8 actions, 6 moves of delay, 16,384 nodes and
 -- 512 initial words. Assumes nothing.
-use Prim.Native.Nat.{ℕ, suc, _+_, _*_, _^_, _≤_, _<_}
+use Prim.Native.Nat.{ℕ, _+_, _*_, _^_, _≤_, _<_}
 use mathlib.Core.List.{List}
 use native.Mathlib.Omega.{arith}
 use native.Mathlib.Nat.{le-trans, mul-le-mul-right, mul-le-mul}

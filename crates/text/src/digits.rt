@@ -67,7 +67,14 @@ pub(crate) fn without_last(n: usize, base: usize, count: usize) -> usize
     rest
 }
 
-fn put_digit(out: &mut [u8], at: usize, actions: usize, count: usize, word: usize, i: usize) -> usize
+fn put_digit(
+    out: &mut [u8],
+    at: usize,
+    actions: usize,
+    count: usize,
+    word: usize,
+    i: usize,
+) -> usize
     requires { ⌜ i < count ⌝ }
     ensures { λ r. ⌜ page (now (out .exit)) r ≡ puts (page (now (out .entry)) at) (digitText actions count word i) ⌝ }
 {

@@ -1,6 +1,11 @@
 // The lines of the listing, and the writers of many lines.
-use super::bytes::{put_byte, put_text, wide16};
-use super::digits::{put_number, put_set, put_word, without_last};
+use super::bytes::put_byte;
+use super::bytes::put_text;
+use super::bytes::wide16;
+use super::digits::put_number;
+use super::digits::put_set;
+use super::digits::put_word;
+use super::digits::without_last;
 ghost use mathlib.Core.Path.{_≡_};
 ghost use Prim.Native.Nat.{_<_};
 ghost use lib.ListN.{length};
@@ -73,7 +78,14 @@ fn put_node(out: &mut [u8], at: usize, actions: usize, count: usize, node: usize
     put_word(out, to, actions, count, node)
 }
 
-pub fn put_allow(out: &mut [u8], at: usize, actions: usize, count: usize, node: usize, mask: usize) -> usize
+pub fn put_allow(
+    out: &mut [u8],
+    at: usize,
+    actions: usize,
+    count: usize,
+    node: usize,
+    mask: usize,
+) -> usize
     ensures { λ r. ⌜ page (now (out .exit)) r ≡ puts (page (now (out .entry)) at) (allowLine actions count node mask) ⌝ }
 {
     let name = put_node(out, at, actions, count, node);
@@ -82,14 +94,28 @@ pub fn put_allow(out: &mut [u8], at: usize, actions: usize, count: usize, node: 
     put_byte(out, end, b'\n')
 }
 
-pub fn put_rank(out: &mut [u8], at: usize, actions: usize, count: usize, node: usize, rank: usize) -> usize
+pub fn put_rank(
+    out: &mut [u8],
+    at: usize,
+    actions: usize,
+    count: usize,
+    node: usize,
+    rank: usize,
+) -> usize
     ensures { λ r. ⌜ page (now (out .exit)) r ≡ puts (page (now (out .entry)) at) (rankLine actions count node rank) ⌝ }
 {
     let name = put_node(out, at, actions, count, node);
     put_field_line(out, name, b" rank ", rank)
 }
 
-fn put_start_at(out: &mut [u8], at: usize, actions: usize, count: usize, flags: &[u8], word: usize) -> usize
+fn put_start_at(
+    out: &mut [u8],
+    at: usize,
+    actions: usize,
+    count: usize,
+    flags: &[u8],
+    word: usize,
+) -> usize
     requires { ⌜ word < length (now flags) ⌝ }
     ensures { λ r. ⌜ page (now (out .exit)) r ≡ puts (page (now (out .entry)) at) (startAt actions count (now (flags .entry)) word) ⌝ }
 {
@@ -118,7 +144,14 @@ fn wide8(x: u8) -> usize
     x as usize
 }
 
-fn put_allow_at(out: &mut [u8], at: usize, actions: usize, count: usize, masks: &[u8], node: usize) -> usize
+fn put_allow_at(
+    out: &mut [u8],
+    at: usize,
+    actions: usize,
+    count: usize,
+    masks: &[u8],
+    node: usize,
+) -> usize
     requires { ⌜ node < length (now masks) ⌝ }
     ensures { λ r. ⌜ page (now (out .exit)) r ≡ puts (page (now (out .entry)) at) (allowAt actions count (now (masks .entry)) node) ⌝ }
 {
@@ -142,7 +175,14 @@ pub fn put_allows(out: &mut [u8], at: usize, actions: usize, count: usize, masks
     to
 }
 
-fn put_rank_at(out: &mut [u8], at: usize, actions: usize, count: usize, ranks: &[u16], node: usize) -> usize
+fn put_rank_at(
+    out: &mut [u8],
+    at: usize,
+    actions: usize,
+    count: usize,
+    ranks: &[u16],
+    node: usize,
+) -> usize
     requires { ⌜ node < length (now ranks) ⌝ }
     ensures { λ r. ⌜ page (now (out .exit)) r ≡ puts (page (now (out .entry)) at) (rankAt actions count (now (ranks .entry)) node) ⌝ }
 {

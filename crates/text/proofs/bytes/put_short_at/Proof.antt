@@ -1,32 +1,23 @@
+-- `put_short_at` meets its contract. Assumes nothing.
 use Rattle.text.proofs.Numbers.{number-laws}
 use Rattle.text.proofs.bytes.put_short_at.Statement.{statement}
 use Rattle.text.proofs.bytes.put_short_at.Tie as tie
-use Rattle.text.proofs.bytes.put_short_at.Reads as reads
-use Rattle.text.proofs.bytes.put_short_at.Lts as lts
-use Rattle.text.proofs.bytes.put_bytes2.Reads as put-bytes2-reads
-use Rattle.text.proofs.bytes.wide16.Reads as wide16-reads
 
--- src/bytes.rt:56:32
 mul-wide16 : tie.Need-mul-wide16
 mul-wide16 c = search number-laws
 
--- src/bytes.rt:56:32
 shared-slice-read-wide16 : tie.Need-shared-slice-read-wide16
 shared-slice-read-wide16 c = search number-laws
 
--- src/bytes.rt:56:25
 wide16-requires : tie.Need-wide16-requires
 wide16-requires c κs = search number-laws
 
--- src/bytes.rt:56:5
 put-bytes2-requires : tie.Need-put-bytes2-requires
 put-bytes2-requires c κs = search number-laws
 
--- src/bytes.rt:52:1
 same-length : tie.Need-same-length
 same-length c = search number-laws
 
--- src/bytes.rt:52:1
 returns : tie.Need-returns
 returns c = search number-laws
 

@@ -1,12 +1,10 @@
+-- `put_text` meets its contract: what is left to write at the head of its loop gives the whole. Assumes nothing.
 use borrow.Author.Needs.{needs}
 use Prim.Native.Nat.{_-_}
 use lib.ListN.{length}
 use Rattle.text.proofs.Page.{begins, goes-on, ends, Along, byteAt, text-is}
 use Rattle.text.proofs.bytes.put_text.Statement.{statement}
 use Rattle.text.proofs.bytes.put_text.Tie as tie
-use Rattle.text.proofs.bytes.put_text.Reads as reads
-use Rattle.text.proofs.bytes.put_text.Lts as lts
-use Rattle.text.proofs.bytes.put_byte.Reads as put-byte-reads
 
 abbrev Inv-loop : tie.InvT-loop
 Inv-loop out₀ at text to₀ k₀ out to k = Along (byteAt text) (length text) out₀ at out to k
@@ -14,36 +12,28 @@ Inv-loop out₀ at text to₀ k₀ out to k = Along (byteAt text) (length text) 
 abbrev μ-loop : tie.MeasureT-loop
 μ-loop out₀ at text to₀ k₀ out to k = length text - k
 
--- src/bytes.rt:25:5
 loop-holds : tie.Need-loop-holds Inv-loop μ-loop
 loop-holds c = search begins
 
--- src/bytes.rt:26:32
 shared-slice-read-put-byte : tie.Need-shared-slice-read-put-byte Inv-loop μ-loop
 shared-slice-read-put-byte c = search needs
 
--- src/bytes.rt:26:9
 put-byte-requires : tie.Need-put-byte-requires Inv-loop μ-loop
 put-byte-requires c κs = search needs
 
--- src/bytes.rt:27:9
 add-k : tie.Need-add-k Inv-loop μ-loop
 add-k c = search needs
 
--- src/bytes.rt:25:5
 loop-less : tie.Need-loop-less Inv-loop μ-loop
 loop-less c = search needs
 
--- src/bytes.rt:25:5
 loop-again : tie.Need-loop-again Inv-loop μ-loop
 unfolding byteAt
 loop-again c = search goes-on
 
--- src/bytes.rt:20:1
 same-length : tie.Need-same-length Inv-loop μ-loop
 same-length c = search needs
 
--- src/bytes.rt:20:1
 returns : tie.Need-returns Inv-loop μ-loop
 returns c = search (ends, text-is)
 

@@ -1,3 +1,4 @@
+-- `put_number` meets its contract. It calls itself at n / 10; the measure is n. Assumes nothing.
 use Rattle.text.proofs.Numbers.{number-laws}
 use Prim.Native.Nat.{ℕ, _<_}
 use borrow.Fn.Kinds.{In}
@@ -20,7 +21,6 @@ abbrev put-number-below : ℕ → In 1 put-number-kinds.ps
 put-number-below t =
     and 1 put-number-kinds.ps (falls 1 put-number-kinds.ps _<_ μ-put-number t) put-number.Pre
 
--- src/digits.rt:33:9
 put-number-put-glyph-requires : (t : ℕ) → put-number-lts.Need-put-glyph-requires (
   put-glyph-reads.Asked,
   put-glyph-reads.Learnt,
@@ -29,7 +29,6 @@ put-number-put-glyph-requires : (t : ℕ) → put-number-lts.Need-put-glyph-requ
 ) (put-number-at t) put-number.Post
 put-number-put-glyph-requires t c κs = search number-laws
 
--- src/digits.rt:33:9
 put-number-same-length : (t : ℕ) → put-number-lts.Need-same-length (
   put-glyph-reads.Asked,
   put-glyph-reads.Learnt,
@@ -38,7 +37,6 @@ put-number-same-length : (t : ℕ) → put-number-lts.Need-same-length (
 ) (put-number-at t) put-number.Post
 put-number-same-length t c = search number-laws
 
--- src/digits.rt:33:9
 put-number-returns : (t : ℕ) → put-number-lts.Need-returns (
   put-glyph-reads.Asked,
   put-glyph-reads.Learnt,
@@ -47,7 +45,6 @@ put-number-returns : (t : ℕ) → put-number-lts.Need-returns (
 ) (put-number-at t) put-number.Post
 put-number-returns t c = search number-laws
 
--- src/digits.rt:35:9
 put-number-put-number-requires : (t : ℕ) → put-number-lts.Need-put-number-requires (
   put-glyph-reads.Asked,
   put-glyph-reads.Learnt,
@@ -56,7 +53,6 @@ put-number-put-number-requires : (t : ℕ) → put-number-lts.Need-put-number-re
 ) (put-number-at t) put-number.Post
 put-number-put-number-requires t c κs = search number-laws
 
--- src/digits.rt:36:5
 put-number-put-glyph-requires-2 : (t : ℕ) → put-number-lts.Need-put-glyph-requires-2 (
   put-glyph-reads.Asked,
   put-glyph-reads.Learnt,
@@ -65,7 +61,6 @@ put-number-put-glyph-requires-2 : (t : ℕ) → put-number-lts.Need-put-glyph-re
 ) (put-number-at t) put-number.Post
 put-number-put-glyph-requires-2 t c κs = search number-laws
 
--- src/digits.rt:29:1
 put-number-same-length-2 : (t : ℕ) → put-number-lts.Need-same-length-2 (
   put-glyph-reads.Asked,
   put-glyph-reads.Learnt,
@@ -74,7 +69,6 @@ put-number-same-length-2 : (t : ℕ) → put-number-lts.Need-same-length-2 (
 ) (put-number-at t) put-number.Post
 put-number-same-length-2 t c = search number-laws
 
--- src/digits.rt:29:1
 put-number-returns-2 : (t : ℕ) → put-number-lts.Need-returns-2 (
   put-glyph-reads.Asked,
   put-glyph-reads.Learnt,

@@ -1,12 +1,10 @@
+-- `without_last` meets its contract: dividing what is left k times fewer gives the whole. Assumes nothing.
 use Prim.Native.Nat.{_-_, _/_, _^_, _≤_}
 use mathlib.Core.Path.{_≡_}
 use borrow.Author.Needs.{needs}
 use Rattle.text.proofs.Fields.{last-start, last-again, last-done}
 use Rattle.text.proofs.digits.without_last.Statement.{statement}
 use Rattle.text.proofs.digits.without_last.Tie as tie
-use Rattle.text.proofs.digits.without_last.Reads as reads
-use Rattle.text.proofs.digits.without_last.Lts as lts
-use Rattle.text.proofs.digits.quotient.Reads as quotient-reads
 
 abbrev Inv-loop : tie.InvT-loop
 Inv-loop n base count rest₀ k₀ rest k = (k ≤ count) × (n / base ^ count ≡ rest / base ^ (count - k))
@@ -14,29 +12,23 @@ Inv-loop n base count rest₀ k₀ rest k = (k ≤ count) × (n / base ^ count �
 abbrev μ-loop : tie.MeasureT-loop
 μ-loop n base count rest₀ k₀ rest k = count - k
 
--- src/digits.rt:63:5
 loop-holds : tie.Need-loop-holds Inv-loop μ-loop
-loop-holds c = search (needs, last-start, last-again, last-done)
+loop-holds c = search (needs, last-start)
 
--- src/digits.rt:64:9
 quotient-requires : tie.Need-quotient-requires Inv-loop μ-loop
-quotient-requires c κs = search (needs, last-start, last-again, last-done)
+quotient-requires c κs = search needs
 
--- src/digits.rt:65:9
 add-k : tie.Need-add-k Inv-loop μ-loop
-add-k c = search (needs, last-start, last-again, last-done)
+add-k c = search needs
 
--- src/digits.rt:63:5
 loop-less : tie.Need-loop-less Inv-loop μ-loop
-loop-less c = search (needs, last-start, last-again, last-done)
+loop-less c = search needs
 
--- src/digits.rt:63:5
 loop-again : tie.Need-loop-again Inv-loop μ-loop
-loop-again c = search (needs, last-start, last-again, last-done)
+loop-again c = search (needs, last-again)
 
--- src/digits.rt:58:1
 returns : tie.Need-returns Inv-loop μ-loop
-returns c = search (needs, last-start, last-again, last-done)
+returns c = search (needs, last-done)
 
 pub without-last-spec : {M : Type 1} → statement M
 without-last-spec =

@@ -1,4 +1,4 @@
--- `put_starts` meets its contract. Assumes nothing.
+-- `put_starts` meets its contract: what is left to write at the head of its loop gives the whole. Assumes nothing.
 use Prim.Native.Nat.{_-_}
 use Rattle.text.proofs.Page.{begins, goes-on, ends, Along}
 use lib.ListN.{length}
