@@ -3,3 +3,5 @@ pub mod More
 pub mod FormLaws
 pub mod KindLaws
 pub mod CheckLaws
+pub mod SizeLaws
+pub mod ReadLaws

@@ -1,3 +1,4 @@
+use Rattle.sheet.proofs.ReadLaws.{layout-is}
 use borrow.Author.Needs.{needs}
 use Rattle.sheet.proofs.reading.layout_at.Statement.{statement}
 use Rattle.sheet.proofs.reading.layout_at.Tie as tie
@@ -9,39 +10,39 @@ use Rattle.sheet.proofs.form.placed.Reads as placed-reads
 
 -- src/reading.rt:64:9
 body-requires : tie.Need-body-requires
-body-requires c κs = ?
+body-requires c κs = search needs
 
 -- src/reading.rt:65:9
 byte-requires : tie.Need-byte-requires
-byte-requires c κs = ?
+byte-requires c κs = search needs
 
 -- src/reading.rt:66:9
 byte-requires-2 : tie.Need-byte-requires-2
-byte-requires-2 c κs = ?
+byte-requires-2 c κs = search needs
 
 -- src/reading.rt:67:9
 byte-requires-3 : tie.Need-byte-requires-3
-byte-requires-3 c κs = ?
+byte-requires-3 c κs = search needs
 
 -- src/reading.rt:68:9
 placed-requires : tie.Need-placed-requires
-placed-requires c κs = ?
+placed-requires c κs = search needs
 
 -- src/reading.rt:69:9
 placed-requires-2 : tie.Need-placed-requires-2
-placed-requires-2 c κs = ?
+placed-requires-2 c κs = search needs
 
 -- src/reading.rt:70:9
 placed-requires-3 : tie.Need-placed-requires-3
-placed-requires-3 c κs = ?
+placed-requires-3 c κs = search needs
 
 -- src/reading.rt:71:9
 placed-requires-4 : tie.Need-placed-requires-4
-placed-requires-4 c κs = ?
+placed-requires-4 c κs = search needs
 
 -- src/reading.rt:61:1
 returns : tie.Need-returns
-returns c = ?
+returns c = search layout-is
 
 pub layout-at-spec : {M : Type 1} → statement M
 layout-at-spec =
