@@ -5,3 +5,4 @@ pub mod KindLaws
 pub mod CheckLaws
 pub mod SizeLaws
 pub mod ReadLaws
+pub mod GridLaws
