@@ -6,3 +6,5 @@ pub mod CheckLaws
 pub mod SizeLaws
 pub mod ReadLaws
 pub mod GridLaws
+pub mod Accepted
+pub mod Legality
