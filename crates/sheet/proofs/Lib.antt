@@ -5,3 +5,6 @@ pub mod KindLaws
 pub mod CheckLaws
 pub mod SizeLaws
 pub mod ReadLaws
+pub mod GridLaws
+pub mod Accepted
+pub mod Legality
