@@ -77,17 +77,18 @@ module _ (s : List ℕ) (l : Layout) (e : readAnswer s ≡ accepted l) where
       let c₄ = check-accepted _ _ _ (c₃ .1) in
       let c₅ = check-accepted _ _ _ (c₄ .1) in
       let c₆ = check-accepted _ _ _ (c₅ .1) in
-      let c₇ = check-accepted _ _ _ (c₆ .1) in
-      (record {
-        contents = c₁ .0;
-        positions = c₂ .0;
-        header = c₃ .0;
-        targets = c₄ .0;
-        moves = c₅ .0;
-        leave = c₆ .0;
-        size = c₇ .0;
-      },
-      same (c₇ .1))
+      let c₇ = check-accepted _ _ _ (c₆ .1) in (
+        record {
+          contents = c₁ .0;
+          positions = c₂ .0;
+          header = c₃ .0;
+          targets = c₄ .0;
+          moves = c₅ .0;
+          leave = c₆ .0;
+          size = c₇ .0;
+        },
+        same (c₇ .1),
+      )
     where
       same : accepted (layoutOf s) ≡ accepted l → l ≡ layoutOf s
       same q = cc

@@ -85,9 +85,19 @@ module _ (p : List ℕ) (q : ℕ) where
   unfolding knownAt isKnown
   known-none k e f = ap isKnown (sym f ∙ e)
 
-pub ruleset kinds =
-    (needs, kind-none, kind-some, controller-known, controller-none, environment-known, environment-none, safe-known, safe-none,
-    known-known, known-none)
+pub ruleset kinds = (
+  needs,
+  kind-none,
+  kind-some,
+  controller-known,
+  controller-none,
+  environment-known,
+  environment-none,
+  safe-known,
+  safe-none,
+  known-known,
+  known-none,
+)
 
 -- check 2
 

@@ -230,7 +230,7 @@ module _ (s : List ℕ) (r : Read s) where
       let f = begun 3 (targetsBody s) (length (targetsBody s) / 3) p e in
       let x = getD (targetsBody s) (3 * f .0 + 1) 0 in
       let line = line-target (targetsBody s) p x (length (targetsBody s) / 3) (f .0) (f .1)
-        (both-true _ _ (eq-eqb _ _ (f .2)) (eq-eqb x x refl)) in
+      (both-true _ _ (eq-eqb _ _ (f .2)) (eq-eqb x x refl)) in
       (x, line .0, line .1)
 
   live-environment : (p : ℕ) → hasLine 2 (movesBody s) (length (movesBody s) / 2) p ≡ true

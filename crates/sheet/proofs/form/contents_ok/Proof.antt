@@ -69,11 +69,12 @@ loop-less c = search contents
 
 loop-again : tie.Need-loop-again Inv-loop μ-loop
 loop-again c =
-    let turn = c .before .before .before .before .before .before .before .loop .inv in
-    (search needs,
-    entries-again _ _ _ _ _ (turn .1) (c .before .before .before .if2 .left) (turn .2) (c .before .before .word .ensures .0)
-    (c .before .if3 .left),
-    place-again _ _ _ _ _ (turn .2) (c .word2 .ensures .0))
+    let turn = c .before .before .before .before .before .before .before .loop .inv in (
+      search needs,
+      entries-again _ _ _ _ _ (turn .1) (c .before .before .before .if2 .left) (turn .2) (c .before .before .word .ensures .0)
+          (c .before .if3 .left),
+      place-again _ _ _ _ _ (turn .2) (c .word2 .ensures .0),
+    )
 
 returns-4 : tie.Need-returns-4 Inv-loop μ-loop
 returns-4 c = search contents

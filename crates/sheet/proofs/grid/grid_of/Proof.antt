@@ -73,12 +73,13 @@ loop-again : tie.Need-loop-again Inv-loop μ-loop
 loop-again c =
     let turn = c .before .before .before .before .before .before .before .loop .inv in
     let from = c .before .before .before .before .wide .ensures in
-    let action = c .before .before .wide2 .ensures .0 in
-    (omega arith,
-    ⊎-elim
-    (λ w. w .1 ∙ grid-line _ _ _ _ _ (turn .1) (from .0) (from .1) action (w .0 .taken))
-    (λ w. w .1 ∙ grid-skip _ _ _ _ _ (turn .1) (from .0) action (w .0 .left))
-    (c .if1 .came))
+    let action = c .before .before .wide2 .ensures .0 in (
+      omega arith,
+      ⊎-elim
+          (λ w. w .1 ∙ grid-line _ _ _ _ _ (turn .1) (from .0) (from .1) action (w .0 .taken))
+          (λ w. w .1 ∙ grid-skip _ _ _ _ _ (turn .1) (from .0) action (w .0 .left))
+          (c .if1 .came),
+    )
 
 returns : tie.Need-returns Inv-loop μ-loop
 returns c = search grid-done
