@@ -1,3 +1,4 @@
+use Rattle.sheet.proofs.ReadLaws.{layout-is}
 use borrow.Author.Needs.{needs}
 use Rattle.sheet.proofs.reading.layout_at.Statement.{statement}
 use Rattle.sheet.proofs.reading.layout_at.Tie as tie
@@ -41,7 +42,7 @@ placed-requires-4 c κs = search needs
 
 -- src/reading.rt:61:1
 returns : tie.Need-returns
-returns c = search needs
+returns c = search layout-is
 
 pub layout-at-spec : {M : Type 1} → statement M
 layout-at-spec =
