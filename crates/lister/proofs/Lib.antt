@@ -1,0 +1,8 @@
+-- Laws of specs/, on which the proofs of the functions rest.
+pub mod More
+pub mod TextLaws
+pub mod Words
+pub mod SolvedLaws
+pub mod InputLaws
+pub mod ProgramLaws
+mod Cases

@@ -1,0 +1,167 @@
+-- What the whole program prints: with buffers of 16,384 entries solving never refuses for room, and the text has at most 463,911
+-- bytes. Assumes nothing.
+use Prim.Native.Nat.{ℕ, suc, _+_, _*_, _/_, _^_, _≤_, _<_}
+use mathlib.Core.Path.{_≡_, refl, sym, ap, _∙_}
+use mathlib.Core.Bool.{Bool, true, false, cond}
+use mathlib.Core.Logic.{⊎-elim}
+use mathlib.Core.List.{List, _++_}
+use native.Mathlib.Omega.{arith}
+use native.Mathlib.Nat.{le-trans, mul-le-mul-left, mul-le-mul-right, pow-le-pow-right}
+use lib.Dec.{leb, ltb}
+use lib.ListN.{length, getD, take, drop, length-append}
+use borrow.Author.Needs.{needs}
+use borrow.Author.Tests.{le-leb}
+use Rattle.theory.specs.Fold.{both}
+use Rattle.theory.specs.Answer.{Answer, refused, accepted, check, onAccepted}
+use Rattle.theory.specs.Strategy.{initialLength}
+use Rattle.theory.specs.Rounds.{masks, finalRanks}
+use Rattle.theory.specs.Delay.{Verdict, wins, losing, arena, words, flags, initialWords, answer}
+use Rattle.theory.proofs.Fold.{bool, both-true, length-tabulate}
+use Rattle.theory.proofs.Answer.{check-passed}
+use Rattle.theory.proofs.Rounds.{final-length, final-le}
+use Rattle.theory.proofs.Region.{length-masks}
+use Rattle.sheet.specs.Checks.{nodesOf}
+use Rattle.sheet.specs.Reading.{readAnswer, delayOf, positionsBody, actionCount}
+use Rattle.sheet.specs.Meant.{gameOf}
+use Rattle.sheet.specs.declared.reading.Layout.{Layout}
+use Rattle.sheet.proofs.Accepted.{Ranges, read-is, ranges, arena-nodes}
+use Rattle.text.specs.Page.{Page, page, puts}
+use Rattle.text.specs.Lines.{refusedLine, headLine, winningLine, losingLine, startLines, allowLines, rankLines}
+use Rattle.text.proofs.Page.{written}
+use Rattle.text.proofs.Lines.{length-winning}
+use Rattle.text.proofs.Sizes.{refused-size, losing-size, head-size, starts-size, allows-size, ranks-size}
+use Rattle.solver.specs.Solving.{Solved, solveAnswer, over}
+use Rattle.lister.specs.Listing.{wonText, lostText, gameText, readText, listingOf, programText, solvedText, textWith}
+use Rattle.lister.proofs.SolvedLaws.{losing-within}
+use Rattle.lister.proofs.Words.{few-words}
+
+-- the buffers suffice
+
+module _ (s : List ℕ) (m n : ℕ) (masks-room : 16384 ≤ m) (ranks-room : 16384 ≤ n) where
+  solved-read : (a : Answer Layout) → readAnswer s ≡ a → solvedText s (solveAnswer s m n) ≡ readText s a
+  unfolding solveAnswer onAccepted solvedText readText
+  solved-read (refused k) e = rw e
+  solved-read (accepted l) e =
+      let few : arena (gameOf s) (delayOf s) .nodes ≤ 16384 = rw (arena-nodes s (delayOf s)) (ranges s (read-is s l e .0) .few-nodes) in
+      let room = both-true _ _ (le-leb (arena (gameOf s) (delayOf s) .nodes) m (omega arith)) (le-leb (arena (gameOf s) (delayOf s) .nodes) n (omega arith)) in
+      rw (e, check-passed _ 8 _ room)
+
+  pub enough : textWith s m n ≡ programText s
+  unfolding textWith programText listingOf
+  enough = rw (solved-read (readAnswer s) refl)
+
+-- the refusals that reading gives
+
+abbrev SmallRefusal : Answer Layout → Type 0
+SmallRefusal (refused n) = n < 100
+SmallRefusal (accepted l) = 0 ≤ 0
+
+small-check : (b : Bool) (n : ℕ) (rest : Answer Layout) → n < 100 → SmallRefusal rest → SmallRefusal (check b n rest)
+unfolding check
+small-check true n rest h g = g
+small-check false n rest h g = h
+
+small-refusal : (s : List ℕ) → SmallRefusal (readAnswer s)
+unfolding readAnswer
+small-refusal s =
+    small-check _ 1 _ (omega arith)
+    (small-check _ 2 _ (omega arith)
+    (small-check _ 3 _ (omega arith)
+    (small-check _ 4 _ (omega arith)
+    (small-check _ 5 _ (omega arith) (small-check _ 6 _ (omega arith) (small-check _ 7 _ (omega arith) (omega arith)))))))
+
+-- the sizes of an accepted sheet's text
+
+won-size : (d p a : ℕ) (fs ms : List ℕ) → d ≤ 6 → p ≤ 256 → 0 < a → a ≤ 8 → length fs ≤ 512 → length ms ≤ 256 * a ^ (d / 2)
+    → length ms ≤ 16384 → length (wonText d p a fs ms) ≤ 463911
+unfolding wonText
+won-size d p a fs ms f g h i j k l =
+    let head = head-size d p a (omega arith) g (omega arith) in
+    let starts = starts-size a (initialLength d) fs (omega arith) j in
+    let allows = allows-size a (d / 2) ms h (omega arith) k l i in
+    simp length-append (omega (arith, length-winning, head, starts, allows))
+
+lost-size : (d p a m : ℕ) (rs : List ℕ) → d ≤ 6 → p ≤ 256 → 0 < a → a ≤ 8 → m ≤ 6 → length rs ≤ 256 * a ^ (m / 2)
+    → length rs ≤ 16384 → ((k : ℕ) → k < length rs → getD rs k 0 < 65536) → length (lostText d p a m rs) ≤ 463911
+unfolding lostText
+lost-size d p a m rs f g h i j k l b =
+    let head = head-size d p a (omega arith) g (omega arith) in
+    let line = losing-size m (omega arith) in
+    let ranks = ranks-size a (m / 2) rs h (omega arith) k l b in
+    simp length-append (omega (arith, head, line, ranks))
+
+module _ (s : List ℕ) (l : Layout) (e : readAnswer s ≡ accepted l) where
+  r : Ranges s
+  r = ranges s (read-is s l e .0)
+
+  few-positions : gameOf s .positions ≤ 256
+  unfolding gameOf
+  few-positions = r .few-positions
+
+  some-action : 0 < gameOf s .actions
+  unfolding gameOf
+  some-action = r .some-action
+
+  few-actions : gameOf s .actions ≤ 8
+  unfolding gameOf
+  few-actions = r .few-actions
+
+  nodes-words : (m : ℕ) → arena (gameOf s) m .nodes ≤ 256 * gameOf s .actions ^ (m / 2)
+  unfolding arena words
+  nodes-words m = mul-le-mul-right (gameOf s .actions ^ (m / 2)) few-positions
+
+  nodes-fewer : (m : ℕ) → m ≤ delayOf s → arena (gameOf s) m .nodes ≤ arena (gameOf s) (delayOf s) .nodes
+  unfolding arena words
+  nodes-fewer m h = mul-le-mul-left (gameOf s .positions) (pow-le-pow-right some-action (omega arith))
+
+  few-nodes : (m : ℕ) → m ≤ delayOf s → arena (gameOf s) m .nodes ≤ 16384
+  few-nodes m h =
+      let asked : arena (gameOf s) (delayOf s) .nodes ≤ 16384 = rw (arena-nodes s (delayOf s)) (r .few-nodes) in
+      le-trans (nodes-fewer m h) asked
+
+  flags-length : length (flags (gameOf s) (delayOf s)) ≡ initialWords (gameOf s) (delayOf s)
+  unfolding flags
+  flags-length = length-tabulate _ 0 _
+
+  game-size : (v : Verdict) → answer (gameOf s) (delayOf s) ≡ v → length (gameText (gameOf s) (delayOf s) v) ≤ 463911
+  unfolding gameText
+  game-size wins q =
+      won-size (delayOf s) (gameOf s .positions) (gameOf s .actions) (flags (gameOf s) (delayOf s)) (masks (arena (gameOf s) (delayOf s)))
+      (r .short-delay) few-positions some-action few-actions (rw flags-length (few-words s l e))
+      (rw (length-masks (arena (gameOf s) (delayOf s))) (nodes-words (delayOf s)))
+      (rw (length-masks (arena (gameOf s) (delayOf s))) (few-nodes (delayOf s) (omega arith)))
+  game-size (losing m) q =
+      let h : m ≤ delayOf s = losing-within s l m e q in
+      let few : arena (gameOf s) m .nodes ≤ 16384 = few-nodes m h in
+      lost-size (delayOf s) (gameOf s .positions) (gameOf s .actions) m (finalRanks (arena (gameOf s) m))
+      (r .short-delay) few-positions some-action few-actions (omega (arith, r .short-delay))
+      (rw (final-length (arena (gameOf s) m)) (nodes-words m))
+      (rw (final-length (arena (gameOf s) m)) few)
+      (λ k g. omega (arith, final-le (arena (gameOf s) m) k))
+
+read-size : (s : List ℕ) (a : Answer Layout) → readAnswer s ≡ a → SmallRefusal a → length (readText s a) ≤ 463911
+unfolding readText
+read-size s (refused n) e h = omega (arith, refused-size n h)
+read-size s (accepted l) e h = game-size s l e (answer (gameOf s) (delayOf s)) refl
+
+-- the largest text
+pub fits : (s : List ℕ) → length (programText s) ≤ 463911
+unfolding programText listingOf
+fits s =
+    ⊎-elim
+    (λ (t : ltb 16384 (length s) ≡ true). rw t (omega (arith, refused-size 1 (omega arith))))
+    (λ (f : ltb 16384 (length s) ≡ false). rw f (read-size s (readAnswer s) refl (small-refusal s)))
+    (bool (ltb 16384 (length s)))
+
+-- so the program's buffer holds it whole
+
+module _ (s out out′ : List ℕ) (r : ℕ) (room : 464000 ≤ length out) (e : page out′ r ≡ puts (page out 0) (textWith s 16384 16384)) where
+  whole : page out′ r ≡ page (over (programText s) out) (length (programText s))
+  unfolding over
+  whole = e ∙ ap (puts (page out 0)) (enough s 16384 16384 (omega arith) (omega arith)) ∙ written (programText s) out (omega (arith, fits s))
+
+  pub whole-size : r ≡ length (programText s)
+  whole-size = ap (λ (p : Page). p .at) whole
+
+  pub whole-text : out′ ≡ over (programText s) out
+  whole-text = ap (λ (p : Page). p .bytes) whole

@@ -1,0 +1,194 @@
+-- What stands in the lent buffers after solving, and the text that it gives. Assumes nothing.
+use Prim.Native.Nat.{ℕ, suc, _+_, _*_, _/_, _^_, _≤_, _<_}
+use mathlib.Core.Path.{_≡_, refl, sym, ap, _∙_}
+use mathlib.Core.Bool.{Bool, true, false, cond}
+use mathlib.Core.Logic.{⊎-elim}
+use mathlib.Core.List.{List, _++_}
+use native.Mathlib.Omega.{arith}
+use lib.Dec.{leb, ltb}
+use lib.ListN.{length, take}
+use lib.Seq.{length-take-le}
+use borrow.Author.Needs.{needs}
+use borrow.Author.Tests.{lt-ltb, le-ltb, leb-true}
+use Rattle.theory.specs.Fold.{both, firstNot}
+use Rattle.theory.specs.Answer.{Answer, refused, accepted, check, onAccepted}
+use Rattle.theory.specs.Game.{Game}
+use Rattle.theory.specs.Rounds.{masks, finalRanks}
+use Rattle.theory.specs.Delay.{Verdict, wins, losing, arena, flags, answer, answerBy, winning}
+use Rattle.theory.proofs.Fold.{bool, first, all-suc}
+use Rattle.theory.proofs.Answer.{check-accepted, accepted-on}
+use Rattle.theory.proofs.Rounds.{final-length}
+use Rattle.theory.proofs.Region.{length-masks}
+use Rattle.theory.proofs.Waiting.{answer-least}
+use Rattle.sheet.specs.Checks.{nodesOf}
+use Rattle.sheet.specs.Reading.{readAnswer, delayOf, refusalNumber}
+use Rattle.sheet.specs.Reading as reading
+use Rattle.sheet.specs.Meant.{gameOf}
+use Rattle.sheet.specs.declared.reading.Layout.{Layout}
+use Rattle.sheet.specs.declared.reading.Reading.{Reading}
+use Rattle.sheet.specs.declared.reading.Reading.the-variants.{Accepted, Refused}
+use Rattle.sheet.proofs.Accepted.{read-is, ranges, carries, arena-nodes}
+use Rattle.sheet.proofs.Legality.{legal-game}
+use Rattle.text.specs.Page.{Page, page, puts}
+use Rattle.text.specs.Lines.{refusedLine}
+use Rattle.text.proofs.Page.{place-within}
+use Rattle.solver.specs.Solving.{Solved, solveAnswer, solvedDelay, over, masksAfter, ranksLeft, meaning}
+use Rattle.solver.specs.declared.solve.Solution.{Solution}
+use Rattle.solver.specs.declared.solve.Solution.the-variants as solution
+use Rattle.io.specs.Counts.{Counts}
+use Rattle.io.proofs.Counting.{counts}
+use Rattle.lister.specs.Listing.{wonText, lostText, gameText, solvedText, textWith, masksWith, ranksWith}
+use Rattle.lister.specs.Parts.{Small, flagsIn}
+use Rattle.lister.proofs.More.{over-first, over-room}
+use Rattle.lister.proofs.Words.{flags-are}
+
+-- what solving accepts was read, and its verdict is the answer
+
+pub solved-is : (s : List ℕ) (m n : ℕ) (a : Solved) → solveAnswer s m n ≡ accepted a
+    → (readAnswer s ≡ accepted (a .layout)) × (answer (gameOf s) (delayOf s) ≡ a .verdict)
+unfolding solveAnswer
+solved-is s m n a e =
+    let o = accepted-on (readAnswer s) _ e in
+    let c = check-accepted _ _ _ (o .2) in
+    (o .1 ∙ ap accepted (ap (λ (x : Solved). x .layout) (same (c .1))), ap (λ (x : Solved). x .verdict) (same (c .1)))
+  where
+    same : {x y : Solved} → accepted x ≡ accepted y → x ≡ y
+    same q = cc
+
+-- an accepted sheet's numbers are in their ranges, and at a lesser delay too
+
+pub small-at : (s : List ℕ) (l : Layout) (m : ℕ) → readAnswer s ≡ accepted l → m ≤ delayOf s → Small (l .positions .size) (l .actions) m
+small-at s l m e h =
+    let r = ranges s (read-is s l e .0) in
+    let c = carries s l e in
+    record {
+      few-positions = rw (c .positions-size) (r .few-positions);
+      few-actions = rw (c .actions) (r .few-actions);
+      short-delay = omega (arith, r .short-delay);
+    }
+
+pub losing-within : (s : List ℕ) (l : Layout) (m : ℕ) → readAnswer s ≡ accepted l → answer (gameOf s) (delayOf s) ≡ losing m → m ≤ delayOf s
+losing-within s l m e f = answer-least (gameOf s) (legal-game s l e) (delayOf s) m f .asked
+
+-- the game's numbers are those that the reading carries
+
+positions-are : (s : List ℕ) (l : Layout) → readAnswer s ≡ accepted l → gameOf s .positions ≡ l .positions .size
+unfolding gameOf
+positions-are s l e = sym (carries s l e .positions-size)
+
+actions-are : (s : List ℕ) (l : Layout) → readAnswer s ≡ accepted l → gameOf s .actions ≡ l .actions
+unfolding gameOf
+actions-are s l e = sym (carries s l e .actions)
+
+-- equal parts give equal texts
+
+won-same : {d d′ n n′ a a′ : ℕ} {fs fs′ ms ms′ : List ℕ} → d ≡ d′ → n ≡ n′ → a ≡ a′ → fs ≡ fs′ → ms ≡ ms′
+    → wonText d n a fs ms ≡ wonText d′ n′ a′ fs′ ms′
+won-same e f g h i = cc
+
+lost-same : {d d′ n n′ a a′ : ℕ} {rs rs′ : List ℕ} (m : ℕ) → d ≡ d′ → n ≡ n′ → a ≡ a′ → rs ≡ rs′ → lostText d n a m rs ≡ lostText d′ n′ a′ m rs′
+lost-same m e f g h = cc
+
+-- s was read as l, and m is the delay for which the buffers are filled
+module _ (s : List ℕ) (l : Layout) (m : ℕ) (read : readAnswer s ≡ accepted l) where
+  nodes : arena (gameOf s) m .nodes ≡ nodesOf (l .positions .size) (l .actions) m
+  nodes = let c = carries s l read in arena-nodes s m ∙ rw (c .positions-size, c .actions)
+
+  masks-first : (b : List ℕ) (n : ℕ) → n ≡ nodesOf (l .positions .size) (l .actions) m
+      → take n (over (masks (arena (gameOf s) m)) b) ≡ masks (arena (gameOf s) m)
+  masks-first b n e = over-first _ b n (e ∙ sym nodes ∙ sym (length-masks (arena (gameOf s) m)))
+
+  ranks-first : (b : List ℕ) (n : ℕ) → n ≡ nodesOf (l .positions .size) (l .actions) m
+      → take n (over (finalRanks (arena (gameOf s) m)) b) ≡ finalRanks (arena (gameOf s) m)
+  ranks-first b n e = over-first _ b n (e ∙ sym nodes ∙ sym (final-length (arena (gameOf s) m)))
+
+  masks-room : (b : List ℕ) (n : ℕ) → n ≡ nodesOf (l .positions .size) (l .actions) m → n ≤ length (over (masks (arena (gameOf s) m)) b)
+  masks-room b n e = omega (arith, over-room (masks (arena (gameOf s) m)) b, length-masks (arena (gameOf s) m), nodes)
+
+  ranks-room : (b : List ℕ) (n : ℕ) → n ≡ nodesOf (l .positions .size) (l .actions) m → n ≤ length (over (finalRanks (arena (gameOf s) m)) b)
+  ranks-room b n e = omega (arith, over-room (finalRanks (arena (gameOf s) m)) b, final-length (arena (gameOf s) m), nodes)
+
+-- the arms of the solver's answer r, as the code finds them. The buffers had mb and rb, and have ms and rs
+
+module _ (s : List ℕ) (mb rb : List ℕ) where
+  abbrev solved : Answer Solved
+  solved = solveAnswer s (length mb) (length rb)
+
+  pub refused-text : {n x : ℕ} (r : Solution) (p : Page) {q : Page} → r ≡ solution.Refused n → meaning r ≡ solved → x ≡ n
+      → q ≡ puts p (refusedLine x) → q ≡ puts p (solvedText s solved)
+  unfolding solvedText
+  refused-text r p e told f g =
+      let a : solved ≡ refused _ = sym told ∙ ap meaning e in
+      rw (a, ← f) g
+
+  module _ (l x : Layout) (r : Solution) (read : readAnswer s ≡ accepted l) where
+    -- winning: the buffers are filled for the asked delay
+    module _ (e : r ≡ solution.Winning x) (told : meaning r ≡ solved) where
+      won-answer : solved ≡ accepted (record { verdict = wins; layout = x })
+      won-answer = sym told ∙ ap meaning e
+
+      won-masks : (ms : List ℕ) → ms ≡ masksAfter s solved mb → ms ≡ over (masks (arena (gameOf s) (l .delay))) mb
+      unfolding masksAfter solvedDelay
+      won-masks ms f = rw (carries s l read .delay) (f ∙ rw won-answer)
+
+      won-ranks : (rs : List ℕ) → rs ≡ ranksLeft s solved rb → rs ≡ over (finalRanks (arena (gameOf s) (l .delay))) rb
+      unfolding ranksLeft solvedDelay
+      won-ranks rs f = rw (carries s l read .delay) (f ∙ rw won-answer)
+
+      module _ (n : ℕ) (ms rs : List ℕ) (is : n ≡ nodesOf (l .positions .size) (l .actions) (l .delay)) where
+        pub won-masks-room : ms ≡ masksAfter s solved mb → n ≤ length ms
+        won-masks-room f = rw (won-masks ms f) (masks-room s l (l .delay) read mb n is)
+
+        pub won-ranks-room : rs ≡ ranksLeft s solved rb → n ≤ length rs
+        won-ranks-room f = rw (won-ranks rs f) (ranks-room s l (l .delay) read rb n is)
+
+        pub won-text : (p : Page) {q : Page} → ms ≡ masksAfter s solved mb → rs ≡ ranksLeft s solved rb
+            → q ≡ puts p (wonText (l .delay) (l .positions .size) (l .actions) (flagsIn s (take n rs)) (take n ms))
+            → q ≡ puts p (solvedText s solved)
+        unfolding solvedText gameText
+        won-text p f g h =
+            let c = carries s l read in
+            let firstMasks : take n ms ≡ masks (arena (gameOf s) (l .delay)) =
+                rw (won-masks ms f) (masks-first s l (l .delay) read mb n is) in
+            let firstRanks : take n rs ≡ finalRanks (arena (gameOf s) (l .delay)) =
+                rw (won-ranks rs g) (ranks-first s l (l .delay) read rb n is) in
+            let good = flags-are s l read (take n rs) (rw (c .delay) at firstRanks) in
+            rw won-answer
+            (h
+            ∙ ap (puts p)
+            (won-same (c .delay) (sym (positions-are s l read)) (sym (actions-are s l read)) good (rw (c .delay) at firstMasks)))
+
+    -- losing: they are filled for the least delay that loses
+    module _ (m : ℕ) (e : r ≡ solution.Losing m x) (told : meaning r ≡ solved) where
+      lost-answer : solved ≡ accepted (record { verdict = losing m; layout = x })
+      lost-answer = sym told ∙ ap meaning e
+
+      pub lost-small : Small (l .positions .size) (l .actions) m
+      lost-small = small-at s l m read (losing-within s l m read (solved-is s (length mb) (length rb) _ lost-answer .1))
+
+      lost-ranks : (rs : List ℕ) → rs ≡ ranksLeft s solved rb → rs ≡ over (finalRanks (arena (gameOf s) m)) rb
+      unfolding ranksLeft solvedDelay
+      lost-ranks rs f = f ∙ rw lost-answer
+
+      module _ (n : ℕ) (rs : List ℕ) (is : n ≡ nodesOf (l .positions .size) (l .actions) m) (f : rs ≡ ranksLeft s solved rb) where
+        pub lost-ranks-room : n ≤ length rs
+        lost-ranks-room = rw (lost-ranks rs f) (ranks-room s l m read rb n is)
+
+        pub lost-text : (p : Page) {q : Page} → q ≡ puts p (lostText (l .delay) (l .positions .size) (l .actions) m (take n rs))
+            → q ≡ puts p (solvedText s solved)
+        unfolding solvedText gameText
+        lost-text p h =
+            let c = carries s l read in
+            let firstRanks : take n rs ≡ finalRanks (arena (gameOf s) m) =
+                rw (lost-ranks rs f) (ranks-first s l m read rb n is) in
+            rw lost-answer
+            (h ∙ ap (puts p) (lost-same m (c .delay) (sym (positions-are s l read)) (sym (actions-are s l read)) firstRanks))
+
+-- the number of entries in a part of a buffer
+pub part-count : (n : ℕ) (xs : List ℕ) → n ≤ length xs → n ≡ length (take n xs)
+part-count n xs h = sym (length-take-le n xs h)
+
+pub asked-small : (s : List ℕ) (l : Layout) → readAnswer s ≡ accepted l → Small (l .positions .size) (l .actions) (l .delay)
+asked-small s l e = small-at s l (l .delay) e (omega (arith, carries s l e .delay))
+
+pub ruleset solving = (needs, refused-text, asked-small, won-masks-room, won-ranks-room, won-text, lost-small, lost-ranks-room, lost-text, part-count)

@@ -1,0 +1,53 @@
+-- The text of a game from its parts, as the code of src/lib.rt writes them. Assumes nothing.
+use Prim.Native.Nat.{ℕ, _+_, _*_, _/_, _^_, _≤_, _<_}
+use mathlib.Core.Path.{_≡_, refl, sym, ap, _∙_}
+use mathlib.Core.Bool.{true, false}
+use mathlib.Core.List.{List, _++_}
+use native.Mathlib.Omega.{arith}
+use lib.ListN.{length, take, replicate}
+use borrow.Author.Needs.{needs}
+use borrow.Author.Tests.{le-leb}
+use Rattle.theory.specs.Strategy.{initialLength}
+use Rattle.sheet.specs.Checks.{nodesOf, powerTo}
+use Rattle.text.specs.Page.{Page, puts}
+use Rattle.text.specs.Lines.{headLine, winningLine, losingLine, startLines, allowLines, rankLines}
+use Rattle.text.proofs.Page.{after}
+use Rattle.solver.specs.Flags.{flagsCount, flagsAfter}
+use Rattle.lister.specs.Listing.{wonText, lostText}
+use Rattle.lister.specs.Parts.{Small, flagsIn}
+use Rattle.lister.proofs.More.{power-small}
+
+-- the number of nodes
+pub nodes-are : (p a d v w : ℕ) → Small p a d → v ≡ d → w ≡ powerTo a (v / 2) → p * w ≡ nodesOf p a d
+unfolding nodesOf powerTo
+nodes-are p a d v w s e f =
+    let few : a ^ (d / 2) ≤ 512 = power-small a (d / 2) (s .few-actions) (omega (arith, s .short-delay)) in
+    rw (f, e, le-leb (a ^ (d / 2)) 65536 (omega arith))
+
+-- the lines of good first words
+pub words-are : (a d n : ℕ) (s ranks fs : List ℕ) (p : Page) {q : Page} {x y : ℕ} → x ≡ a → y ≡ d → n ≡ flagsCount s 512
+    → fs ≡ flagsAfter s ranks (replicate 512 0) → q ≡ puts p (startLines x ((y + 1) / 2) (take n fs))
+    → q ≡ puts p (startLines a (initialLength d) (flagsIn s ranks))
+unfolding flagsIn
+words-are a d n s ranks fs p e f g h z = rw (e, f, g, h) at z
+
+-- x and y are the delay and the actions as the code widens them
+pub won-is : (d n a : ℕ) (fs ms : List ℕ) (p : Page) {q r t u : Page} {x y : ℕ} → x ≡ d → y ≡ a → q ≡ puts p (headLine x n y)
+    → r ≡ puts q winningLine → t ≡ puts r (startLines a (initialLength d) fs) → u ≡ puts t (allowLines y (x / 2) ms)
+    → u ≡ puts p (wonText d n a fs ms)
+unfolding wonText
+won-is d n a fs ms p {q} {r} {t} {u} e f g h i j =
+    let head : q ≡ puts p (headLine d n a) = rw (e, f) at g in
+    let allows : u ≡ puts t (allowLines a (d / 2) ms) = rw (e, f) at j in
+    after p _ _ head (after q _ _ h (after r _ _ i allows))
+
+pub lost-is : (d n a m : ℕ) (rs : List ℕ) (p : Page) {q r t : Page} {x y z : ℕ} → x ≡ d → y ≡ a → z ≡ m → q ≡ puts p (headLine x n y)
+    → r ≡ puts q (losingLine z) → t ≡ puts r (rankLines y (z / 2) rs) → t ≡ puts p (lostText d n a m rs)
+unfolding lostText
+lost-is d n a m rs p {q} {r} {t} e f g h i j =
+    let head : q ≡ puts p (headLine d n a) = rw (e, f) at h in
+    let line : r ≡ puts q (losingLine m) = rw g at i in
+    let ranks : t ≡ puts r (rankLines a (m / 2) rs) = rw (f, g) at j in
+    after p _ _ head (after q _ _ line ranks)
+
+pub ruleset parts = (needs, nodes-are, words-are, won-is, lost-is)

@@ -1,0 +1,132 @@
+// The listing program, from the bytes of its input to the lines that document 01 prints.
+use sheet::form::wide;
+use sheet::reading::Layout;
+use sheet::reading::Reading;
+use sheet::reading::read;
+use sheet::reading::refusal_number;
+use sheet::size::power;
+use solver::solve::Solution;
+use solver::solve::solve;
+use solver::words::initial_flags;
+use text::listing::put_allows;
+use text::listing::put_head;
+use text::listing::put_losing;
+use text::listing::put_ranks;
+use text::listing::put_refused;
+use text::listing::put_starts;
+use text::listing::put_winning;
+ghost use mathlib.Core.Path.{_≡_};
+ghost use lib.ListN.{length};
+ghost use Rattle.theory.specs.Answer.{accepted};
+ghost use Rattle.theory.specs.Strategy.{initialLength};
+ghost use Rattle.sheet.specs.Checks.{nodesOf};
+ghost use Rattle.sheet.specs.Reading.{readAnswer};
+ghost use Rattle.text.specs.Page.{page, puts};
+ghost use Rattle.text.specs.Lines.{startLines};
+ghost use Rattle.solver.specs.Solving.{solveAnswer, masksAfter, ranksLeft, over};
+ghost use Rattle.io.specs.Counts.{Counts};
+ghost use Rattle.lister.specs.Listing.{wonText, lostText, programText, solvedText, textWith, masksWith, ranksWith};
+ghost use Rattle.lister.specs.Parts.{Small, flagsIn};
+
+const MOST_INPUT: usize = 16384;
+
+fn nodes_at(positions: usize, actions: u8, delay: u8) -> usize
+    requires { ⌜ Small positions actions delay ⌝ }
+    ensures { λ r. ⌜ r ≡ nodesOf positions actions delay ⌝ }
+{
+    positions * power(actions, wide(delay) / 2)
+}
+
+// A line for each good first word, by the ranks at the asked delay. There are at most 512 words: 8 actions, 3 in a word.
+fn put_words(out: &mut [u8], at: usize, sheet: &[u8], l: Layout, ranks: &[u16]) -> usize
+    ensures { λ r. ⌜ page (now (out .exit)) r ≡ puts (page (now (out .entry)) at) (startLines (l .actions) (initialLength (l .delay)) (flagsIn (now (sheet .entry)) (now (ranks .entry)))) ⌝ }
+{
+    let mut flags = [0u8; 512];
+    let n = initial_flags(sheet, ranks, &mut flags);
+    put_starts(
+        out,
+        at,
+        wide(l.actions),
+        (wide(l.delay) + 1) / 2,
+        &flags[..n],
+    )
+}
+
+fn put_won(out: &mut [u8], sheet: &[u8], l: Layout, masks: &[u8], ranks: &[u16]) -> usize
+    ensures { λ r. ⌜ page (now (out .exit)) r ≡ puts (page (now (out .entry)) 0) (wonText (l .delay) (l .positions .size) (l .actions) (flagsIn (now (sheet .entry)) (now (ranks .entry))) (now (masks .entry))) ⌝ }
+{
+    let delay = wide(l.delay);
+    let actions = wide(l.actions);
+    let a = put_head(out, 0, delay, l.positions.size, actions);
+    let b = put_winning(out, a);
+    let c = put_words(out, b, sheet, l, ranks);
+    put_allows(out, c, actions, delay / 2, masks)
+}
+
+fn put_lost(out: &mut [u8], l: Layout, m: u8, ranks: &[u16]) -> usize
+    ensures { λ r. ⌜ page (now (out .exit)) r ≡ puts (page (now (out .entry)) 0) (lostText (l .delay) (l .positions .size) (l .actions) m (now (ranks .entry))) ⌝ }
+{
+    let actions = wide(l.actions);
+    let delay = wide(m);
+    let a = put_head(out, 0, wide(l.delay), l.positions.size, actions);
+    let b = put_losing(out, a, delay);
+    put_ranks(out, b, actions, delay / 2, ranks)
+}
+
+// The text of a sheet with this reading.
+fn put_game(out: &mut [u8], sheet: &[u8], l: Layout, masks: &mut [u8], ranks: &mut [u16]) -> usize
+    requires { ⌜ readAnswer (now sheet) ≡ accepted l ⌝ }
+    ensures text { λ r. ⌜ page (now (out .exit)) r ≡ puts (page (now (out .entry)) 0) (solvedText (now (sheet .entry)) (solveAnswer (now (sheet .entry)) (length (now (masks .entry))) (length (now (ranks .entry))))) ⌝ }
+    ensures masks { λ r. ⌜ now (masks .exit) ≡ masksAfter (now (sheet .entry)) (solveAnswer (now (sheet .entry)) (length (now (masks .entry))) (length (now (ranks .entry)))) (now (masks .entry)) ⌝ }
+    ensures ranks { λ r. ⌜ now (ranks .exit) ≡ ranksLeft (now (sheet .entry)) (solveAnswer (now (sheet .entry)) (length (now (masks .entry))) (length (now (ranks .entry)))) (now (ranks .entry)) ⌝ }
+{
+    let solution = solve(sheet, masks, ranks);
+    match solution {
+        Solution::Refused(number) => put_refused(out, 0, wide(number)),
+        Solution::Winning(_) => {
+            let nodes = nodes_at(l.positions.size, l.actions, l.delay);
+            put_won(out, sheet, l, &masks[..nodes], &ranks[..nodes])
+        }
+        Solution::Losing(m, _) => {
+            let nodes = nodes_at(l.positions.size, l.actions, m);
+            put_lost(out, l, m, &ranks[..nodes])
+        }
+    }
+}
+
+// What the program prints for a sheet, with lent buffers of any size: what `out` has no room for is left out.
+pub fn list(sheet: &[u8], masks: &mut [u8], ranks: &mut [u16], out: &mut [u8]) -> usize
+    ensures text { λ r. ⌜ page (now (out .exit)) r ≡ puts (page (now (out .entry)) 0) (textWith (now (sheet .entry)) (length (now (masks .entry))) (length (now (ranks .entry)))) ⌝ }
+    ensures counts { λ r. ⌜ Counts r (now (out .exit)) ⌝ }
+    ensures masks { λ r. ⌜ now (masks .exit) ≡ masksWith (now (sheet .entry)) (length (now (ranks .entry))) (now (masks .entry)) ⌝ }
+    ensures ranks { λ r. ⌜ now (ranks .exit) ≡ ranksWith (now (sheet .entry)) (length (now (masks .entry))) (now (ranks .entry)) ⌝ }
+{
+    if MOST_INPUT < sheet.len() {
+        return put_refused(out, 0, 1);
+    }
+    let reading = read(sheet);
+    let Reading::Accepted(l) = reading else {
+        return put_refused(out, 0, wide(refusal_number(reading)));
+    };
+    put_game(out, sheet, l, masks, ranks)
+}
+
+// The same with buffers that suffice for every sheet: the whole text, and nothing else of `out` is altered.
+pub fn list_into(sheet: &[u8], out: &mut [u8; 464000]) -> usize
+    ensures size { λ r. ⌜ r ≡ length (programText (now (sheet .entry))) ⌝ }
+    ensures text { λ r. ⌜ now (out .exit) ≡ over (programText (now (sheet .entry))) (now (out .entry)) ⌝ }
+    ensures counts { λ r. ⌜ Counts r (now (out .exit)) ⌝ }
+{
+    let mut masks = [0u8; 16384];
+    let mut ranks = [0u16; 16384];
+    list(sheet, &mut masks, &mut ranks, out)
+}
+
+// The program: one byte more than is allowed is read, so that input that is too long is seen to be.
+pub fn run() {
+    let mut sheet = [0u8; 16385];
+    let n = io::read_full(0, &mut sheet);
+    let mut out = [0u8; 464000];
+    let size = list_into(&sheet[..n], &mut out);
+    io::write_all(1, &out[..size]);
+}
