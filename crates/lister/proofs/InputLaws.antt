@@ -1,12 +1,12 @@
 -- The text by the length of the input and by its reading, as `list` finds them. Assumes nothing.
 use Prim.Native.Nat.{ℕ, _≤_, _<_}
-use mathlib.Core.Path.{_≡_, refl, sym, ap, _∙_}
+use mathlib.Core.Path.{_≡_, sym, ap, _∙_}
 use mathlib.Core.List.{List}
 use native.Mathlib.Omega.{arith}
 use lib.ListN.{length, take}
 use borrow.Author.Needs.{needs}
 use borrow.Author.Tests.{lt-ltb, le-ltb}
-use Rattle.theory.specs.Answer.{Answer, refused, accepted, onAccepted}
+use Rattle.theory.specs.Answer.{refused, accepted, onAccepted}
 use Rattle.sheet.specs.Reading.{readAnswer, meaning, refusalNumber}
 use Rattle.sheet.specs.declared.refusal.Refusal.{Refusal}
 use Rattle.sheet.specs.declared.reading.Layout.{Layout}

@@ -1,17 +1,15 @@
 -- What the whole program prints: with buffers of 16,384 entries solving never refuses for room, and the text has at most 463,911
 -- bytes. Assumes nothing.
-use Prim.Native.Nat.{ℕ, suc, _+_, _*_, _/_, _^_, _≤_, _<_}
-use mathlib.Core.Path.{_≡_, refl, sym, ap, _∙_}
-use mathlib.Core.Bool.{Bool, true, false, cond}
+use Prim.Native.Nat.{ℕ, _*_, _/_, _^_, _≤_, _<_}
+use mathlib.Core.Path.{_≡_, refl, ap, _∙_}
+use mathlib.Core.Bool.{Bool, true, false}
 use mathlib.Core.Logic.{⊎-elim}
-use mathlib.Core.List.{List, _++_}
+use mathlib.Core.List.{List}
 use native.Mathlib.Omega.{arith}
 use native.Mathlib.Nat.{le-trans, mul-le-mul-left, mul-le-mul-right, pow-le-pow-right}
-use lib.Dec.{leb, ltb}
-use lib.ListN.{length, getD, take, drop, length-append}
-use borrow.Author.Needs.{needs}
+use lib.Dec.{ltb}
+use lib.ListN.{length, getD, length-append}
 use borrow.Author.Tests.{le-leb}
-use Rattle.theory.specs.Fold.{both}
 use Rattle.theory.specs.Answer.{Answer, refused, accepted, check, onAccepted}
 use Rattle.theory.specs.Strategy.{initialLength}
 use Rattle.theory.specs.Rounds.{masks, finalRanks}
@@ -20,17 +18,15 @@ use Rattle.theory.proofs.Fold.{bool, both-true, length-tabulate}
 use Rattle.theory.proofs.Answer.{check-passed}
 use Rattle.theory.proofs.Rounds.{final-length, final-le}
 use Rattle.theory.proofs.Region.{length-masks}
-use Rattle.sheet.specs.Checks.{nodesOf}
-use Rattle.sheet.specs.Reading.{readAnswer, delayOf, positionsBody, actionCount}
+use Rattle.sheet.specs.Reading.{readAnswer, delayOf}
 use Rattle.sheet.specs.Meant.{gameOf}
 use Rattle.sheet.specs.declared.reading.Layout.{Layout}
 use Rattle.sheet.proofs.Accepted.{Ranges, read-is, ranges, arena-nodes}
 use Rattle.text.specs.Page.{Page, page, puts}
-use Rattle.text.specs.Lines.{refusedLine, headLine, winningLine, losingLine, startLines, allowLines, rankLines}
 use Rattle.text.proofs.Page.{written}
 use Rattle.text.proofs.Lines.{length-winning}
 use Rattle.text.proofs.Sizes.{refused-size, losing-size, head-size, starts-size, allows-size, ranks-size}
-use Rattle.solver.specs.Solving.{Solved, solveAnswer, over}
+use Rattle.solver.specs.Solving.{solveAnswer, over}
 use Rattle.lister.specs.Listing.{wonText, lostText, gameText, readText, listingOf, programText, solvedText, textWith}
 use Rattle.lister.proofs.SolvedLaws.{losing-within}
 use Rattle.lister.proofs.Words.{few-words}

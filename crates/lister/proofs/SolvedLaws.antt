@@ -1,43 +1,32 @@
 -- What stands in the lent buffers after solving, and the text that it gives. Assumes nothing.
-use Prim.Native.Nat.{ℕ, suc, _+_, _*_, _/_, _^_, _≤_, _<_}
-use mathlib.Core.Path.{_≡_, refl, sym, ap, _∙_}
-use mathlib.Core.Bool.{Bool, true, false, cond}
-use mathlib.Core.Logic.{⊎-elim}
-use mathlib.Core.List.{List, _++_}
+use Prim.Native.Nat.{ℕ, _≤_}
+use mathlib.Core.Path.{_≡_, sym, ap, _∙_}
+use mathlib.Core.List.{List}
 use native.Mathlib.Omega.{arith}
-use lib.Dec.{leb, ltb}
 use lib.ListN.{length, take}
 use lib.Seq.{length-take-le}
 use borrow.Author.Needs.{needs}
-use borrow.Author.Tests.{lt-ltb, le-ltb, leb-true}
-use Rattle.theory.specs.Fold.{both, firstNot}
-use Rattle.theory.specs.Answer.{Answer, refused, accepted, check, onAccepted}
-use Rattle.theory.specs.Game.{Game}
+use Rattle.theory.specs.Answer.{Answer, refused, accepted}
 use Rattle.theory.specs.Rounds.{masks, finalRanks}
-use Rattle.theory.specs.Delay.{Verdict, wins, losing, arena, flags, answer, answerBy, winning}
-use Rattle.theory.proofs.Fold.{bool, first, all-suc}
+use Rattle.theory.specs.Delay.{wins, losing, arena, answer}
 use Rattle.theory.proofs.Answer.{check-accepted, accepted-on}
 use Rattle.theory.proofs.Rounds.{final-length}
 use Rattle.theory.proofs.Region.{length-masks}
 use Rattle.theory.proofs.Waiting.{answer-least}
 use Rattle.sheet.specs.Checks.{nodesOf}
-use Rattle.sheet.specs.Reading.{readAnswer, delayOf, refusalNumber}
+use Rattle.sheet.specs.Reading.{readAnswer, delayOf}
 use Rattle.sheet.specs.Reading as reading
 use Rattle.sheet.specs.Meant.{gameOf}
 use Rattle.sheet.specs.declared.reading.Layout.{Layout}
-use Rattle.sheet.specs.declared.reading.Reading.{Reading}
-use Rattle.sheet.specs.declared.reading.Reading.the-variants.{Accepted, Refused}
+use Rattle.sheet.specs.declared.reading.Reading.the-variants.{Refused}
 use Rattle.sheet.proofs.Accepted.{read-is, ranges, carries, arena-nodes}
 use Rattle.sheet.proofs.Legality.{legal-game}
-use Rattle.text.specs.Page.{Page, page, puts}
+use Rattle.text.specs.Page.{Page, puts}
 use Rattle.text.specs.Lines.{refusedLine}
-use Rattle.text.proofs.Page.{place-within}
 use Rattle.solver.specs.Solving.{Solved, solveAnswer, solvedDelay, over, masksAfter, ranksLeft, meaning}
 use Rattle.solver.specs.declared.solve.Solution.{Solution}
 use Rattle.solver.specs.declared.solve.Solution.the-variants as solution
-use Rattle.io.specs.Counts.{Counts}
-use Rattle.io.proofs.Counting.{counts}
-use Rattle.lister.specs.Listing.{wonText, lostText, gameText, solvedText, textWith, masksWith, ranksWith}
+use Rattle.lister.specs.Listing.{wonText, lostText, gameText, solvedText}
 use Rattle.lister.specs.Parts.{Small, flagsIn}
 use Rattle.lister.proofs.More.{over-first, over-room}
 use Rattle.lister.proofs.Words.{flags-are}
@@ -149,9 +138,9 @@ module _ (s : List ℕ) (mb rb : List ℕ) where
         won-text p f g h =
             let c = carries s l read in
             let firstMasks : take n ms ≡ masks (arena (gameOf s) (l .delay)) =
-                rw (won-masks ms f) (masks-first s l (l .delay) read mb n is) in
+            rw (won-masks ms f) (masks-first s l (l .delay) read mb n is) in
             let firstRanks : take n rs ≡ finalRanks (arena (gameOf s) (l .delay)) =
-                rw (won-ranks rs g) (ranks-first s l (l .delay) read rb n is) in
+            rw (won-ranks rs g) (ranks-first s l (l .delay) read rb n is) in
             let good = flags-are s l read (take n rs) (rw (c .delay) at firstRanks) in
             rw won-answer
             (h
@@ -180,7 +169,7 @@ module _ (s : List ℕ) (mb rb : List ℕ) where
         lost-text p h =
             let c = carries s l read in
             let firstRanks : take n rs ≡ finalRanks (arena (gameOf s) m) =
-                rw (lost-ranks rs f) (ranks-first s l m read rb n is) in
+            rw (lost-ranks rs f) (ranks-first s l m read rb n is) in
             rw lost-answer
             (h ∙ ap (puts p) (lost-same m (c .delay) (sym (positions-are s l read)) (sym (actions-are s l read)) firstRanks))
 

@@ -1,16 +1,15 @@
 -- The flags that solver's first words give are theory's. Assumes nothing.
-use Prim.Native.Nat.{ℕ, _+_, _*_, _/_, _^_, _≤_, _<_}
-use mathlib.Core.Path.{_≡_, refl, sym, ap, _∙_}
-use mathlib.Core.Bool.{true, false, cond}
-use mathlib.Core.List.{List, []}
+use Prim.Native.Nat.{ℕ, _≤_}
+use mathlib.Core.Path.{_≡_, sym, _∙_}
+use mathlib.Core.Bool.{cond}
+use mathlib.Core.List.{List}
 use native.Mathlib.Omega.{arith}
-use lib.Dec.{leb}
 use lib.ListN.{length, take, replicate, length-replicate}
 use lib.Seq.{length-take-le}
 use borrow.Author.Needs.{needs}
 use borrow.Author.Tests.{le-leb}
 use Rattle.theory.specs.Fold.{tabulate}
-use Rattle.theory.specs.Answer.{Answer, refused, accepted}
+use Rattle.theory.specs.Answer.{accepted}
 use Rattle.theory.specs.Strategy.{initialLength}
 use Rattle.theory.specs.Rounds.{finalRanks}
 use Rattle.theory.specs.Delay.{arena, flags, initialWords, goodWith}
@@ -21,7 +20,7 @@ use Rattle.sheet.specs.declared.reading.Layout.{Layout}
 use Rattle.sheet.proofs.Accepted.{read-is, ranges}
 use Rattle.solver.specs.Flags.{flagsBy, flagsCount, flagsAfter}
 use Rattle.lister.specs.Parts.{flagsIn}
-use Rattle.lister.proofs.More.{over-first, over-room, power-small}
+use Rattle.lister.proofs.More.{over-first, power-small}
 
 -- the count lies within the buffer of flags
 pub count-within : (s : List ℕ) (n : ℕ) (fs ranks : List ℕ) → n ≡ flagsCount s 512 → fs ≡ flagsAfter s ranks (replicate 512 0) → n ≤ length fs

@@ -1,10 +1,9 @@
 -- Document 01's section "The listing program": from the bytes of its input to the whole text. Assumes nothing.
 use Prim.Native.Nat.{ℕ, _/_}
-use mathlib.Core.Path.{_≡_}
 use mathlib.Core.Bool.{cond}
 use mathlib.Core.List.{List, _++_}
 use lib.Dec.{ltb}
-use lib.ListN.{length, take}
+use lib.ListN.{length}
 use Rattle.theory.specs.Answer.{Answer, refused, accepted}
 use Rattle.theory.specs.Strategy.{initialLength}
 use Rattle.theory.specs.Game.{Game}

@@ -3,23 +3,16 @@ use Rattle.lister.proofs.ProgramLaws.{whole-size, whole-text}
 use borrow.Author.Needs.{needs}
 use Rattle.lister.proofs.list_into.Statement.{statement}
 use Rattle.lister.proofs.list_into.Tie as tie
-use Rattle.lister.proofs.list_into.Reads as reads
-use Rattle.lister.proofs.list_into.Lts as lts
-use Rattle.lister.proofs.list.Reads as list-reads
 
--- src/lib.rt:132:17
 slice-aggregate-list : tie.Need-slice-aggregate-list
 slice-aggregate-list c = search needs
 
--- src/lib.rt:132:29
 slice-aggregate-list-2 : tie.Need-slice-aggregate-list-2
 slice-aggregate-list-2 c = search needs
 
--- src/lib.rt:132:5
 list-requires : tie.Need-list-requires
 list-requires c κs = search needs
 
--- src/lib.rt:125:1
 returns : tie.Need-returns
 returns c =
     let e = c .before .before .list .ensures .0 in

@@ -5,24 +5,16 @@ use Rattle.lister.proofs.TextLaws.{parts}
 use borrow.Author.Needs.{needs}
 use Rattle.lister.proofs.nodes_at.Statement.{statement}
 use Rattle.lister.proofs.nodes_at.Tie as tie
-use Rattle.lister.proofs.nodes_at.Reads as reads
-use Rattle.lister.proofs.nodes_at.Lts as lts
-use Rattle.sheet.proofs.form.wide.Reads as wide-reads
-use Rattle.sheet.proofs.size.power.Reads as power-reads
 
--- src/lib.rt:39:32
 wide-requires : tie.Need-wide-requires
 wide-requires c κs = search needs
 
--- src/lib.rt:39:17
 power-requires : tie.Need-power-requires
 power-requires c κs = search needs
 
--- src/lib.rt:39:5
 mul-result : tie.Need-mul-result
 mul-result c = omega (arith, mul-le-mul (c .before .before .pre .few-positions) (c .power .ensures .1))
 
--- src/lib.rt:35:1
 returns : tie.Need-returns
 returns c = search parts
 

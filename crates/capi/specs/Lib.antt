@@ -1,0 +1,2 @@
+-- What the exported functions answer and leave. Each file says what it defines.
+pub mod Exported

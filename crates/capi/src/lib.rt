@@ -1,0 +1,56 @@
+// Reading and solving for C and Rust callers (include/loquatquoits.h). Every function takes any bytes and any lengths.
+use sheet::reading::Reading;
+use sheet::reading::read;
+use sheet::reading::refusal_number;
+use solver::solve::Solution;
+use solver::solve::solve;
+ghost use mathlib.Core.Path.{_≡_};
+ghost use lib.ListN.{length};
+ghost use Rattle.sheet.specs.Reading.{readAnswer};
+ghost use Rattle.solver.specs.Solving.{solveAnswer, masksAfter, ranksLeft};
+ghost use Rattle.capi.specs.Exported.{numberFor, headerAfter, placesAfter, losingAfter};
+
+#[no_mangle]
+pub extern "C" fn lq_read(sheet: &[u8], header: &mut [u8; 3], places: &mut [usize; 8]) -> u8
+    ensures number { λ r. ⌜ r ≡ numberFor (readAnswer (now (sheet .entry))) ⌝ }
+    ensures header { λ r. ⌜ now (header .exit) ≡ headerAfter (readAnswer (now (sheet .entry))) (now (header .entry)) ⌝ }
+    ensures places { λ r. ⌜ now (places .exit) ≡ placesAfter (readAnswer (now (sheet .entry))) (now (places .entry)) ⌝ }
+{
+    let reading = read(sheet);
+    let Reading::Accepted(l) = reading else {
+        return refusal_number(reading);
+    };
+    *header = [l.start, l.actions, l.delay];
+    *places = [
+        l.header.at,
+        l.header.size,
+        l.positions.at,
+        l.positions.size,
+        l.targets.at,
+        l.targets.size,
+        l.moves.at,
+        l.moves.size,
+    ];
+    0
+}
+
+#[no_mangle]
+pub extern "C" fn lq_solve(sheet: &[u8], masks: &mut [u8], ranks: &mut [u16], losing: &mut u8) -> u8
+    ensures number { λ r. ⌜ r ≡ numberFor (solveAnswer (now (sheet .entry)) (length (now (masks .entry))) (length (now (ranks .entry)))) ⌝ }
+    ensures masks { λ r. ⌜ now (masks .exit) ≡ masksAfter (now (sheet .entry)) (solveAnswer (now (sheet .entry)) (length (now (masks .entry))) (length (now (ranks .entry)))) (now (masks .entry)) ⌝ }
+    ensures ranks { λ r. ⌜ now (ranks .exit) ≡ ranksLeft (now (sheet .entry)) (solveAnswer (now (sheet .entry)) (length (now (masks .entry))) (length (now (ranks .entry)))) (now (ranks .entry)) ⌝ }
+    ensures losing { λ r. ⌜ now (losing .exit) ≡ losingAfter (solveAnswer (now (sheet .entry)) (length (now (masks .entry))) (length (now (ranks .entry)))) (now (losing .entry)) ⌝ }
+{
+    let solution = solve(sheet, masks, ranks);
+    match solution {
+        Solution::Refused(number) => number,
+        Solution::Winning(_) => {
+            *losing = 255;
+            0
+        }
+        Solution::Losing(m, _) => {
+            *losing = m;
+            0
+        }
+    }
+}
