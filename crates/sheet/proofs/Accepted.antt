@@ -1,16 +1,15 @@
 -- What an accepted game sheet says: each check passed, its numbers are in their ranges, and the places that a reading carries are
 -- those of the bodies. Assumes nothing.
 use Prim.Native.Nat.{ℕ, zero, suc, _+_, _-_, _*_, _/_, _%_, _≤_, _<_}
-use mathlib.Core.Path.{_≡_, refl, sym, _∙_, ap}
-use mathlib.Core.Bool.{Bool, true, false}
+use mathlib.Core.Path.{_≡_, refl, sym}
+use mathlib.Core.Bool.{true}
 use mathlib.Core.List.{List}
 use native.Mathlib.Omega.{arith}
-use lib.Dec.{eqb, leb, lit<}
-use lib.ListN.{length, getD, take, drop, length-drop}
+use lib.Dec.{lit<}
+use lib.ListN.{length, drop, length-drop}
 use lib.Seq.{length-take-le}
-use borrow.Author.Tests.{leb-true, eqb-true, ltb-true}
-use Rattle.theory.specs.Fold.{both, allBelow}
-use Rattle.theory.specs.Answer.{Answer, refused, accepted, check}
+use borrow.Author.Tests.{leb-true, eqb-true}
+use Rattle.theory.specs.Answer.{accepted}
 use Rattle.theory.specs.Delay.{arena, words}
 use Rattle.theory.proofs.Fold.{both-left, both-right, all-at}
 use Rattle.theory.proofs.Answer.{check-accepted}

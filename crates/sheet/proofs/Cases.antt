@@ -1,11 +1,10 @@
 -- The table of specs/Cases.antt holds, by computation from the definitions, and so does what the guess yard means. Assumes nothing.
-use Prim.Native.Nat.{ℕ}
 use mathlib.Core.Path.{_≡_, refl}
-use mathlib.Core.Bool.{Bool, true, false}
-use mathlib.Core.List.{List, [], _∷_, map}
+use mathlib.Core.Bool.{true, false}
+use mathlib.Core.List.{[], _∷_, map}
 use Rattle.theory.specs.Fold.{both, either, allBelow, anyBelow, tabulate}
 use Rattle.theory.specs.Answer.{check}
-use Rattle.theory.specs.Game.{Target, absent, to}
+use Rattle.theory.specs.Game.{absent, to}
 use Rattle.sheet.specs.Form.{numberAt, entrySize, letterOf, offsetOf, lengthOf, placeOf, entryOk, contentsOk, placedAt, partAt, bodyOf}
 use Rattle.sheet.specs.Kinds.{kindOf, kindAt, isKnown, isController, isEnvironment, isSafe, knownAt, controllerAt, environmentAt, safeAt}
 use Rattle.sheet.specs.Checks.{positionsOk, headerOk, keyAt, risesAt, targetOk, targetsOk, moveOk, movesOk, beginsAt, hasLine, leavesAt, allLeave, nodesOf, sizeOk}

@@ -1,11 +1,9 @@
 -- Sheets with the answers that document 01 gives them, and what the guess yard means: the table that proofs/Cases.antt computes.
 -- Not here, for their size: a sheet of 256 positions, and one of 4,097 moves; the tests run them. Assumes nothing.
-use Prim.Native.Nat.{ℕ, zero, suc, _+_, _-_, _/_, _%_}
-use mathlib.Core.List.{List, [], _∷_, _++_, map}
+use Prim.Native.Nat.{ℕ, zero, suc, _+_, _/_, _%_}
+use mathlib.Core.List.{List, [], _∷_, _++_}
 use lib.ListN.{length, take, drop, set, replicate}
 use Rattle.theory.specs.Answer.{Answer, refused, accepted}
-use Rattle.theory.specs.Fold.{tabulate}
-use Rattle.theory.specs.Game.{Target, absent, to}
 use Rattle.sheet.specs.declared.reading.Layout.{Layout}
 
 pub record Case : Type 0 where
