@@ -1,0 +1,54 @@
+-- `sheet::size::power` meets its contract, by the laws of proofs/SizeLaws.antt. The loop has r at the power i, not cut off.
+-- Assumes nothing.
+use Prim.Native.Nat.{_≤_, _-_, _^_}
+use mathlib.Core.Path.{_≡_}
+use native.Mathlib.Omega.{arith}
+use Rattle.sheet.specs.Limits.{mostPower}
+use Rattle.sheet.proofs.SizeLaws.{powers, product-small}
+use Rattle.sheet.proofs.size.power.Statement.{statement}
+use Rattle.sheet.proofs.size.power.Tie as tie
+
+abbrev Inv-loop : tie.InvT-loop
+Inv-loop base exponent r₀ i₀ r i = (i ≤ exponent) × (r ≡ base ^ i) × (r ≤ mostPower)
+
+abbrev μ-loop : tie.MeasureT-loop
+μ-loop base exponent r₀ i₀ r i = exponent - i
+
+loop-holds : tie.Need-loop-holds Inv-loop μ-loop
+loop-holds c = search powers
+
+wide-requires : tie.Need-wide-requires Inv-loop μ-loop
+wide-requires c κs = search powers
+
+mul-r : tie.Need-mul-r Inv-loop μ-loop
+mul-r c = omega (arith, product-small (c .before .before .loop .inv .2) (c .wide .ensures .0) (c .wide .ensures .1))
+
+returns : tie.Need-returns Inv-loop μ-loop
+returns c = search powers
+
+add-i : tie.Need-add-i Inv-loop μ-loop
+add-i c = search powers
+
+loop-less : tie.Need-loop-less Inv-loop μ-loop
+loop-less c = search powers
+
+loop-again : tie.Need-loop-again Inv-loop μ-loop
+loop-again c = search powers
+
+returns-2 : tie.Need-returns-2 Inv-loop μ-loop
+returns-2 c = search powers
+
+pub power-spec : {M : Type 1} → statement M
+power-spec =
+    tie.close
+    (tie.spec
+    Inv-loop
+    μ-loop
+    loop-holds
+    wide-requires
+    mul-r
+    returns
+    add-i
+    loop-less
+    loop-again
+    returns-2)

@@ -1,0 +1,72 @@
+-- The game that a game sheet means, read off its bytes alone, and the grid of targets. Assumes nothing.
+use Prim.Native.Nat.{ℕ, zero, suc, _+_, _*_, _/_}
+use mathlib.Core.Bool.{Bool, cond}
+use mathlib.Core.List.{List, [], _∷_}
+use lib.Dec.{eqb, ltb}
+use lib.ListN.{length, getD}
+use Rattle.theory.specs.Fold.{both, tabulate}
+use Rattle.theory.specs.Game.{Target, absent, to, Game}
+use Rattle.sheet.specs.Limits.{mostPositions, mostActions}
+use Rattle.sheet.specs.Kinds.{controllerAt, safeAt}
+use Rattle.sheet.specs.Reading.{positionsBody, targetsBody, movesBody, startOf, actionCount}
+
+-- line k of the C body is about position q and action x
+unfoldable pub isLine : List ℕ → ℕ → ℕ → ℕ → Bool
+isLine c q x k = both (eqb (getD c (3 * k) 0) q) (eqb (getD c (3 * k + 1) 0) x)
+
+-- where action x leads from position q by the first n lines of the C body: "from, command, to". Keys rise, so one line at most fits
+unfoldable pub targetIn : List ℕ → ℕ → ℕ → ℕ → Target
+targetIn c q x zero = absent
+targetIn c q x (suc n) = cond (isLine c q x n) (to (getD c (3 * n + 2) 0)) (targetIn c q x n)
+
+-- where the environment can move from position q by the n lines of the U body from line i, in their order: "from, to"
+unfoldable pub movesIn : List ℕ → ℕ → ℕ → ℕ → List ℕ
+movesIn u q i zero = []
+movesIn u q i (suc n) =
+    cond (eqb (getD u (2 * i) 0) q) (getD u (2 * i + 1) 0 ∷ movesIn u q (suc i) n) (movesIn u q (suc i) n)
+
+-- what a whole C or U body says of a position
+unfoldable pub targetOf : List ℕ → ℕ → ℕ → Target
+targetOf c q x = targetIn c q x (length c / 3)
+
+unfoldable pub movesOf : List ℕ → ℕ → List ℕ
+movesOf u q = movesIn u q 0 (length u / 2)
+
+-- the game of document 01's "The yard and its play" that a game sheet describes
+unfoldable pub gameOf : List ℕ → Game
+gameOf s =
+    record {
+      positions = length (positionsBody s);
+      start = startOf s;
+      actions = actionCount s;
+      controller = controllerAt (positionsBody s);
+      safe = safeAt (positionsBody s);
+      target = targetOf (targetsBody s);
+      moves = movesOf (movesBody s);
+    }
+
+-- the grid's mark for an absent target: no position has it
+abbrev pub absentMark : ℕ
+absentMark = 256
+
+unfoldable pub markOf : Target → ℕ
+markOf absent = absentMark
+markOf (to q) = q
+
+unfoldable pub rowOf : List ℕ → ℕ → ℕ → List ℕ
+rowOf c n q = tabulate (λ x. markOf (targetIn c q x n)) 0 mostActions
+
+-- the grid after the first n lines of the C body
+unfoldable pub gridAfter : List ℕ → ℕ → List (List ℕ)
+gridAfter c n = tabulate (rowOf c n) 0 mostPositions
+
+-- "The C body means a grid of targets: one row for each position, eight targets a row, some absent"
+unfoldable pub gridOf : List ℕ → List (List ℕ)
+gridOf c = gridAfter c (length c / 3)
+
+-- what a grid says of position q and action x
+unfoldable pub unmark : ℕ → Target
+unmark t = cond (eqb t absentMark) absent (to t)
+
+unfoldable pub targetAt : List (List ℕ) → ℕ → ℕ → Target
+targetAt g q x = cond (both (ltb q mostPositions) (ltb x mostActions)) (unmark (getD (getD g q []) x absentMark)) absent

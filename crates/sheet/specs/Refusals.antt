@@ -1,0 +1,26 @@
+-- Document 01's number for each refusal, under "What each operation says no to". Assumes nothing.
+use Prim.Native.Nat.{ℕ}
+use Rattle.sheet.specs.declared.refusal.Refusal.{Refusal}
+use Rattle.sheet.specs.declared.refusal.Refusal.the-variants.{Contents, Positions, Header, Targets, Moves, Stuck, Size, Buffers, Output, TableContents, TableShape, NoInitialWord, Unobserved, NoAction, LastTurn, UnknownPosition, TooOld, TooNew, Contradiction, State}
+
+abbrev pub numberOf : Refusal → ℕ
+numberOf Contents = 1
+numberOf Positions = 2
+numberOf Header = 3
+numberOf Targets = 4
+numberOf Moves = 5
+numberOf Stuck = 6
+numberOf Size = 7
+numberOf Buffers = 8
+numberOf Output = 9
+numberOf TableContents = 10
+numberOf TableShape = 11
+numberOf NoInitialWord = 12
+numberOf Unobserved = 13
+numberOf NoAction = 14
+numberOf LastTurn = 15
+numberOf UnknownPosition = 16
+numberOf TooOld = 17
+numberOf TooNew = 18
+numberOf Contradiction = 19
+numberOf State = 20

@@ -1,0 +1,113 @@
+// What the byte of a position in the P body says. Every function is total: a position that does not exist is of no kind.
+use crate::limits::MOST_POSITIONS;
+ghost use mathlib.Core.Path.{_≡_};
+ghost use Rattle.sheet.specs.Kinds.{kindOf, kindAt, knownAt, controllerAt, environmentAt, safeAt};
+ghost use Rattle.sheet.specs.Checks.{positionsOk};
+
+pub enum Kind {
+    Position { controller: bool, safe: bool },
+    Invalid,
+}
+
+// Side and safety by a P byte; there is none above 3.
+pub fn kind_of(b: u8) -> Kind
+    ensures { λ r. ⌜ r ≡ kindOf b ⌝ }
+{
+    match b {
+        0 => Kind::Position {
+            controller: true,
+            safe: true,
+        },
+        1 => Kind::Position {
+            controller: true,
+            safe: false,
+        },
+        2 => Kind::Position {
+            controller: false,
+            safe: true,
+        },
+        3 => Kind::Position {
+            controller: false,
+            safe: false,
+        },
+        4..=255 => Kind::Invalid,
+    }
+}
+
+pub fn kind_at(p: &[u8], q: usize) -> Kind
+    ensures { λ r. ⌜ r ≡ kindAt (now (p .entry)) q ⌝ }
+{
+    if p.len() <= q {
+        return Kind::Invalid;
+    }
+    kind_of(p[q])
+}
+
+pub fn controller_at(p: &[u8], q: usize) -> bool
+    ensures { λ r. ⌜ r ≡ controllerAt (now (p .entry)) q ⌝ }
+{
+    match kind_at(p, q) {
+        Kind::Position {
+            controller,
+            safe: _,
+        } => controller,
+        Kind::Invalid => false,
+    }
+}
+
+pub fn environment_at(p: &[u8], q: usize) -> bool
+    ensures { λ r. ⌜ r ≡ environmentAt (now (p .entry)) q ⌝ }
+{
+    match kind_at(p, q) {
+        Kind::Position {
+            controller,
+            safe: _,
+        } => !controller,
+        Kind::Invalid => false,
+    }
+}
+
+pub fn safe_at(p: &[u8], q: usize) -> bool
+    ensures { λ r. ⌜ r ≡ safeAt (now (p .entry)) q ⌝ }
+{
+    match kind_at(p, q) {
+        Kind::Position {
+            controller: _,
+            safe,
+        } => safe,
+        Kind::Invalid => false,
+    }
+}
+
+pub(crate) fn known_at(p: &[u8], q: usize) -> bool
+    ensures { λ r. ⌜ r ≡ knownAt (now (p .entry)) q ⌝ }
+{
+    match kind_at(p, q) {
+        Kind::Position {
+            controller: _,
+            safe: _,
+        } => true,
+        Kind::Invalid => false,
+    }
+}
+
+// Check 2.
+pub(crate) fn positions_ok(p: &[u8]) -> bool
+    ensures { λ r. ⌜ r ≡ positionsOk (now (p .entry)) ⌝ }
+{
+    let n = p.len();
+    if n < 1 {
+        return false;
+    }
+    if MOST_POSITIONS < n {
+        return false;
+    }
+    let mut q: usize = 0;
+    while q < n {
+        if !known_at(p, q) {
+            return false;
+        }
+        q += 1;
+    }
+    true
+}

@@ -1,0 +1,144 @@
+// The lines of the C and U bodies: checks 4 to 6.
+use crate::form::wide;
+use crate::kinds::controller_at;
+use crate::kinds::environment_at;
+use crate::limits::MOST_MOVES;
+ghost use mathlib.Core.Path.{_≡_};
+ghost use Prim.Native.Nat.{_+_, _*_, _≤_, _<_};
+ghost use lib.ListN.{length};
+ghost use Rattle.sheet.specs.Checks.{keyAt, risesAt, targetOk, targetsOk, moveOk, movesOk, hasLine, leavesAt, allLeave};
+
+// The first two bytes of a line as one number, by which lines are ordered.
+fn key(b: &[u8], i: usize) -> usize
+    requires { ⌜ i + 1 < length (now b) ⌝ }
+    ensures { λ r. ⌜ r ≡ keyAt (now (b .entry)) i ⌝ }
+{
+    wide(b[i]) * 256 + wide(b[i + 1])
+}
+
+// Has line k a larger key than the one before it?
+fn rises(width: usize, b: &[u8], k: usize) -> bool
+    requires { ⌜ width * k + 1 < length (now b) ⌝ }
+    ensures { λ r. ⌜ r ≡ risesAt width (now (b .entry)) k ⌝ }
+{
+    if k == 0 {
+        return true;
+    }
+    let before = key(b, width * (k - 1));
+    let here = key(b, width * k);
+    before < here
+}
+
+// Is line k of the C body right?
+fn target_ok(p: &[u8], actions: u8, c: &[u8], k: usize) -> bool
+    requires { ⌜ 3 * k + 2 < length (now c) ⌝ }
+    ensures { λ r. ⌜ r ≡ targetOk (now (p .entry)) actions (now (c .entry)) k ⌝ }
+{
+    if !controller_at(p, wide(c[3 * k])) {
+        return false;
+    }
+    let action = c[3 * k + 1];
+    if actions <= action {
+        return false;
+    }
+    if !environment_at(p, wide(c[3 * k + 2])) {
+        return false;
+    }
+    rises(3, c, k)
+}
+
+// Check 4.
+pub(crate) fn targets_ok(p: &[u8], actions: u8, c: &[u8]) -> bool
+    ensures { λ r. ⌜ r ≡ targetsOk (now (p .entry)) actions (now (c .entry)) ⌝ }
+{
+    let n = c.len() / 3;
+    let over = c.len() % 3;
+    if over != 0 {
+        return false;
+    }
+    let mut k: usize = 0;
+    while k < n {
+        if !target_ok(p, actions, c, k) {
+            return false;
+        }
+        k += 1;
+    }
+    true
+}
+
+// Is line k of the U body right?
+fn move_ok(p: &[u8], u: &[u8], k: usize) -> bool
+    requires { ⌜ 2 * k + 1 < length (now u) ⌝ }
+    ensures { λ r. ⌜ r ≡ moveOk (now (p .entry)) (now (u .entry)) k ⌝ }
+{
+    if !environment_at(p, wide(u[2 * k])) {
+        return false;
+    }
+    if !controller_at(p, wide(u[2 * k + 1])) {
+        return false;
+    }
+    rises(2, u, k)
+}
+
+// Check 5.
+pub(crate) fn moves_ok(p: &[u8], u: &[u8]) -> bool
+    ensures { λ r. ⌜ r ≡ movesOk (now (p .entry)) (now (u .entry)) ⌝ }
+{
+    let n = u.len() / 2;
+    let over = u.len() % 2;
+    if over != 0 {
+        return false;
+    }
+    if MOST_MOVES < n {
+        return false;
+    }
+    let mut k: usize = 0;
+    while k < n {
+        if !move_ok(p, u, k) {
+            return false;
+        }
+        k += 1;
+    }
+    true
+}
+
+// Does one of the first n lines begin with q?
+fn has_line(width: usize, b: &[u8], n: usize, q: usize) -> bool
+    requires { ⌜ (1 ≤ width) × (width * n ≤ length (now b)) ⌝ }
+    ensures { λ r. ⌜ r ≡ hasLine width (now (b .entry)) n q ⌝ }
+{
+    let mut k: usize = 0;
+    while k < n {
+        let from = wide(b[width * k]);
+        if from == q {
+            return true;
+        }
+        k += 1;
+    }
+    false
+}
+
+// Has position q a move of its own kind?
+fn leaves_at(p: &[u8], c: &[u8], u: &[u8], q: usize) -> bool
+    ensures { λ r. ⌜ r ≡ leavesAt (now (p .entry)) (now (c .entry)) (now (u .entry)) q ⌝ }
+{
+    if controller_at(p, q) {
+        return has_line(3, c, c.len() / 3, q);
+    }
+    has_line(2, u, u.len() / 2, q)
+}
+
+// Check 6.
+pub(crate) fn all_leave(p: &[u8], c: &[u8], u: &[u8]) -> bool
+    ensures { λ r. ⌜ r ≡ allLeave (now (p .entry)) (now (c .entry)) (now (u .entry)) ⌝ }
+{
+    let n = p.len();
+    let mut q: usize = 0;
+    while q < n {
+        if !leaves_at(p, c, u, q) {
+            return false;
+        }
+        q += 1;
+    }
+    true
+}
