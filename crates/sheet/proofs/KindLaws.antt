@@ -1,16 +1,13 @@
 -- The kinds of positions and check 2, as the code of src/kinds.rt finds them. Assumes nothing.
 use Prim.Native.Nat.{ℕ, _+_, _≤_, _<_}
-use mathlib.Core.Path.{_≡_, refl, sym, _∙_, ap}
-use mathlib.Core.Bool.{Bool, true, false, not, cond}
+use mathlib.Core.Path.{_≡_, sym, _∙_, ap}
+use mathlib.Core.Bool.{Bool, true, false, not}
 use mathlib.Core.List.{List}
-use native.Mathlib.Omega.{arith}
-use lib.Dec.{eqb, leb, ltb}
 use lib.ListN.{length, getD}
 use borrow.Author.Needs.{needs}
-use borrow.Author.Tests.{le-leb, lt-leb, lt-ltb, le-ltb, eq-eqb, ne-eqb}
-use Rattle.theory.specs.Fold.{both, allBelow}
-use Rattle.theory.proofs.Fold.{both-true, both-false, all-none, all-done}
-use Rattle.sheet.proofs.More.{both-none, all-next, all-stopped}
+use borrow.Author.Tests.{le-leb, lt-leb, lt-ltb, le-ltb, ne-eqb}
+use Rattle.theory.specs.Fold.{allBelow}
+use Rattle.theory.proofs.Fold.{both-true, both-false, all-none, all-done, both-none, all-next, all-stopped}
 use Rattle.sheet.specs.Kinds.{kindOf, kindAt, isKnown, isController, isEnvironment, isSafe, knownAt, controllerAt, environmentAt, safeAt}
 use Rattle.sheet.specs.Checks.{positionsOk}
 use Rattle.sheet.specs.declared.kinds.Kind.{Kind}

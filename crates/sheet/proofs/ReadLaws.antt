@@ -1,7 +1,7 @@
 -- The reader's answers, as the code of src/reading.rt and refusal.rt finds them: the checks before have passed, and one fails.
 -- Assumes nothing.
 use Prim.Native.Nat.{ℕ, _≤_}
-use mathlib.Core.Path.{_≡_, refl, sym, _∙_, ap}
+use mathlib.Core.Path.{_≡_, sym, _∙_, ap}
 use mathlib.Core.Bool.{Bool, true, false, not}
 use mathlib.Core.List.{List}
 use lib.ListN.{length, getD}
@@ -9,8 +9,7 @@ use borrow.Author.Needs.{needs}
 use borrow.Author.Tests.{leb-true}
 use Rattle.theory.specs.Answer.{Answer, refused, accepted, check}
 use Rattle.theory.proofs.Answer.{check-passed}
-use Rattle.theory.proofs.Fold.{both-left, both-right}
-use Rattle.sheet.proofs.More.{failed, passed}
+use Rattle.theory.proofs.Fold.{both-left, both-right, failed, passed}
 use Rattle.sheet.specs.Form.{contentsOk, placedAt, bodyOf}
 use Rattle.sheet.specs.Checks.{positionsOk, headerOk, targetsOk, movesOk, allLeave, sizeOk}
 use Rattle.sheet.specs.Refusals.{numberOf}
@@ -19,7 +18,7 @@ use Rattle.sheet.specs.declared.form.Place.{Place}
 use Rattle.sheet.specs.declared.refusal.Refusal.{Refusal}
 use Rattle.sheet.specs.declared.reading.Layout.{Layout}
 use Rattle.sheet.specs.declared.reading.Reading.{Reading}
-use Rattle.sheet.specs.declared.reading.Reading.the-variants.{Accepted, Refused}
+use Rattle.sheet.specs.declared.reading.Reading.the-variants.{Refused}
 
 pub number-told : (r x : Refusal) (n : ℕ) → r ≡ x → n ≡ numberOf x → n ≡ numberOf r
 number-told r x n e f = f ∙ ap numberOf (sym e)

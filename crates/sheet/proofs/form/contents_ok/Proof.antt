@@ -1,8 +1,10 @@
-use borrow.Author.Needs.{needs}
+-- `sheet::form::contents_ok` meets its contract, by the laws of proofs/FormLaws.antt. The loop has passed k right entries, and body k must begin at `at`.
+-- Assumes nothing.
 use Prim.Native.Nat.{_≤_, _-_}
 use mathlib.Core.Path.{_≡_}
 use mathlib.Core.Bool.{true}
 use lib.ListN.{length}
+use borrow.Author.Needs.{needs}
 use Rattle.theory.specs.Fold.{allBelow}
 use Rattle.sheet.specs.Form.{placeOf, entryOk}
 use Rattle.sheet.proofs.FormLaws.{contents, entries-again, place-again}

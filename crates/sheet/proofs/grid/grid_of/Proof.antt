@@ -1,11 +1,13 @@
+-- `sheet::grid::grid_of` meets its contract, by the laws of proofs/GridLaws.antt. The loop has the grid of the first k lines.
+-- Assumes nothing.
 use Prim.Native.Nat.{_+_, _-_, _*_, _/_, _≤_}
 use mathlib.Core.Path.{_≡_, _∙_}
 use mathlib.Core.Logic.{⊎-elim}
 use native.Mathlib.Omega.{arith}
 use lib.ListN.{length}
-use Rattle.sheet.proofs.GridLaws.{grid-start, grid-line, grid-skip, grid-done}
-use Rattle.sheet.specs.Meant.{gridAfter}
 use borrow.Author.Needs.{needs}
+use Rattle.sheet.specs.Meant.{gridAfter}
+use Rattle.sheet.proofs.GridLaws.{grid-start, grid-line, grid-skip, grid-done}
 use Rattle.sheet.proofs.grid.grid_of.Statement.{statement}
 use Rattle.sheet.proofs.grid.grid_of.Tie as tie
 
