@@ -5,3 +5,7 @@ pub mod KindLaws
 pub mod CheckLaws
 pub mod SizeLaws
 pub mod ReadLaws
+pub mod GridLaws
+pub mod Accepted
+pub mod Legality
+pub mod Cases

@@ -2,12 +2,11 @@
 use crate::form::wide;
 use crate::kinds::controller_at;
 use crate::kinds::environment_at;
+use crate::limits::MOST_MOVES;
 ghost use mathlib.Core.Path.{_≡_};
 ghost use Prim.Native.Nat.{_+_, _*_, _≤_, _<_};
 ghost use lib.ListN.{length};
 ghost use Rattle.sheet.specs.Checks.{keyAt, risesAt, targetOk, targetsOk, moveOk, movesOk, hasLine, leavesAt, allLeave};
-
-const MOST_MOVES: usize = 4096;
 
 fn key(b: &[u8], i: usize) -> usize
     requires { ⌜ i + 1 < length (now b) ⌝ }

@@ -7,6 +7,8 @@ use crate::form::placed;
 use crate::form::wide;
 use crate::kinds::controller_at;
 use crate::kinds::positions_ok;
+use crate::limits::MOST_ACTIONS;
+use crate::limits::MOST_DELAY;
 use crate::lines::all_leave;
 use crate::lines::moves_ok;
 use crate::lines::targets_ok;
@@ -20,10 +22,6 @@ ghost use Rattle.theory.specs.Answer.{accepted, check};
 ghost use Rattle.sheet.specs.Limits.{mostPositions};
 ghost use Rattle.sheet.specs.Checks.{headerOk, targetsOk, movesOk, allLeave, sizeOk};
 ghost use Rattle.sheet.specs.Reading.{layoutOf, readAnswer, meaning, refusalNumber};
-
-const MOST_ACTIONS: u8 = 8;
-
-const MOST_DELAY: u8 = 6;
 
 // What an accepted reading carries: the start bytes and the places of the bodies.
 pub struct Layout {
