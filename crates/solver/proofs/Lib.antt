@@ -1,1 +1,3 @@
 -- Laws of the definitions of specs/, on which the proofs of the functions rest.
+pub mod More
+pub mod WalkLaws
