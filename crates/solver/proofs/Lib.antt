@@ -1,3 +1,6 @@
 -- Laws of the definitions of specs/, on which the proofs of the functions rest.
 pub mod More
+pub mod Filling
 pub mod WalkLaws
+pub mod MoveLaws
+pub mod RoundLaws
