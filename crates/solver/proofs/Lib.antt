@@ -5,3 +5,5 @@ pub mod WalkLaws
 pub mod LevelLaws
 pub mod GoodLaws
 pub mod MaskLaws
+pub mod MoveLaws
+pub mod RoundLaws
