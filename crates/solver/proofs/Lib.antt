@@ -7,3 +7,5 @@ pub mod GoodLaws
 pub mod MaskLaws
 pub mod MoveLaws
 pub mod RoundLaws
+pub mod SearchLaws
+pub mod Bodies

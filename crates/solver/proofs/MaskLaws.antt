@@ -7,6 +7,8 @@ use mathlib.Core.List.{List}
 use native.Mathlib.Omega.{arith}
 use native.Mathlib.Nat.{pow-suc}
 use native.Mathlib.Numerals.{add-one}
+use mir.Val.{Fits}
+use mir.Syntax.{w8, w64}
 use lib.Dec.{eqb, ltb, leb}
 use lib.Pow.{pow-mono}
 use lib.ListN.{length, getD, set}
@@ -36,6 +38,18 @@ fallen-fell n ranks most k =
     ∙ sym (ap not (ne-eqb (getD ranks k 0) 0 (λ z. omega arith))))
     (below? (getD ranks k 0) 1)
 
+pub bit-first : 1 ≡ 2 ^ 0
+bit-first = refl
+
+pub bit-next : (c : ℕ) {b : ℕ} → b ≡ 2 ^ c → b * 2 ≡ 2 ^ (c + 1)
+bit-next c {b} e = rw (add-one c, pow-suc 2 c, e)
+
+pub bit-small : (c : ℕ) {b : ℕ} → b ≡ 2 ^ c → c ≤ 8 → b ≤ 256
+bit-small c e h = rw e (pow-mono h)
+
+pub bit-fits : (c a : ℕ) {b : ℕ} → b ≡ 2 ^ c → c < a → a ≤ 8 → Fits w64 (b * 2)
+bit-fits c a q h l = let r = bit-small c q (omega arith) in record { fits = omega arith }
+
 -- the bits of the first c actions
 unfoldable pub allowedBelow : Arena → ℕ → List ℕ → ℕ → ℕ → ℕ
 allowedBelow E n ranks k c = maskBelow (λ a. not (spoiltBy E (fallenBy n ranks) k a)) c
@@ -50,13 +64,13 @@ module _ (E : Arena) (n : ℕ) (ranks : List ℕ) (k : ℕ) where
   bits-suc c = rw (add-one c)
 
   -- an action that is not spoilt adds its bit b
-  pub bits-set : (c : ℕ) {m b : ℕ} {r : Bool} → m ≡ allowedBelow E n ranks k c → b ≡ 2 ^ c → r ≡ spoiltBy E (fallenBy n ranks) k c
-      → not r ≡ true → m + b ≡ allowedBelow E n ranks k (c + 1)
-  bits-set c {m} {b} {r} e q f x = sym (bits-suc c ∙ rw (← f, x, ← e, ← q))
+  pub bits-set : (c : ℕ) {m b s : ℕ} {r : Bool} → s ≡ m + b → m ≡ allowedBelow E n ranks k c → b ≡ 2 ^ c
+      → r ≡ spoiltBy E (fallenBy n ranks) k c → not r ≡ true → s ≡ allowedBelow E n ranks k (c + 1)
+  bits-set c {m} {b} {s} {r} i e q f x = i ∙ sym (bits-suc c ∙ rw (← f, x, ← e, ← q))
 
-  pub bits-kept : (c : ℕ) {m : ℕ} {r : Bool} → m ≡ allowedBelow E n ranks k c → r ≡ spoiltBy E (fallenBy n ranks) k c → not r ≡ false
-      → m ≡ allowedBelow E n ranks k (c + 1)
-  bits-kept c {m} {r} e f x = let z : m + 0 ≡ m = omega arith in sym (bits-suc c ∙ rw (← f, x, ← e, z))
+  pub bits-kept : (c : ℕ) {m s : ℕ} {r : Bool} → s ≡ m → m ≡ allowedBelow E n ranks k c → r ≡ spoiltBy E (fallenBy n ranks) k c
+      → not r ≡ false → s ≡ allowedBelow E n ranks k (c + 1)
+  bits-kept c {m} {s} {r} i e f x = let z : m + 0 ≡ m = omega arith in i ∙ sym (bits-suc c ∙ rw (← f, x, ← e, z))
 
   pub bits-small : (c : ℕ) {m : ℕ} → m ≡ allowedBelow E n ranks k c → c ≤ 8 → m < 256
   unfolding allowedBelow
@@ -64,14 +78,16 @@ module _ (E : Arena) (n : ℕ) (ranks : List ℕ) (k : ℕ) where
       let p : 2 ^ c ≤ 256 = pow-mono h in
       omega (arith, mask-lt (λ a. not (spoiltBy E (fallenBy n ranks) k a)) c)
 
-pub bit-first : 1 ≡ 2 ^ 0
-bit-first = refl
+  -- sums and the byte fit
 
-pub bit-next : (c : ℕ) {b : ℕ} → b ≡ 2 ^ c → b * 2 ≡ 2 ^ (c + 1)
-bit-next c {b} e = rw (add-one c, pow-suc 2 c, e)
+  pub add-fits : (c a : ℕ) {m b : ℕ} → m ≡ allowedBelow E n ranks k c → b ≡ 2 ^ c → c < a → a ≤ 8 → Fits w64 (m + b)
+  add-fits c a {m} {b} e q h l =
+      let p = bits-small c e (omega arith) in
+      let r = bit-small c q (omega arith) in
+      record { fits = omega arith }
 
-pub bit-small : (c : ℕ) {b : ℕ} → b ≡ 2 ^ c → c ≤ 8 → b ≤ 256
-bit-small c e h = rw e (pow-mono h)
+  pub mask-fits : (c a : ℕ) {m : ℕ} → m ≡ allowedBelow E n ranks k c → c ≤ a → a ≤ 8 → Fits w8 m
+  mask-fits c a e h l = let p = bits-small c e (omega arith) in record { fits = omega arith }
 
 module _ (p : List ℕ) (g : List (List ℕ)) (u f : List ℕ) (l : Level) (n : ℕ) (ranks : List ℕ) (k : ℕ) where
   abbrev here : Arena
@@ -93,7 +109,7 @@ module _ (p : List ℕ) (g : List (List ℕ)) (u f : List ℕ) (l : Level) (n : 
       ∙ ap (λ (t : ℕ → Bool). maskBelow (λ c. not (spoiltBy here t k c)) (here .actions)) (fun-ext (fallen-fell n ranks most))
       ∙ rw (← kept-is p g u f l ranks k, ← e, not-false r x)
 
-pub ruleset bits = (needs, bits-start, bits-set, bits-kept, bits-small, bit-first, bit-next, bit-small, bits-done)
+pub ruleset bits = (needs, bits-start, bits-set, bits-kept, bit-first, bit-next, bits-done, add-fits, bit-fits, mask-fits)
 
 pub ruleset a-mask = (needs, mask-lost, mask-stands)
 

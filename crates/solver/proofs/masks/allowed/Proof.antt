@@ -2,8 +2,9 @@
 use Prim.Native.Nat.{_-_, _≤_, _^_}
 use mathlib.Core.Path.{_≡_}
 use mathlib.Core.Logic.{⊎-elim}
+use borrow.Author.Needs.{needs}
 use Rattle.solver.specs.View.{arenaOf}
-use Rattle.solver.proofs.MaskLaws.{allowedBelow, bits}
+use Rattle.solver.proofs.MaskLaws.{allowedBelow, bits, bits-set, bits-kept, bit-next}
 use Rattle.solver.proofs.masks.allowed.Statement.{statement}
 use Rattle.solver.proofs.masks.allowed.Tie as tie
 
@@ -32,7 +33,13 @@ loop-less : tie.Need-loop-less Inv-loop μ-loop
 loop-less c = search bits
 
 loop-again : tie.Need-loop-again Inv-loop μ-loop
-loop-again c = ⊎-elim (λ w. search bits) (λ w. search bits) (c .if2 .came)
+loop-again c =
+    let l = c .before .before .before .before .loop in
+    let r = c .before .spoilt .ensures in
+    ⊎-elim
+    (λ w. (search needs, bits-set _ _ _ _ (l .c) (w .1) (l .inv .1) (l .inv .2) r (w .0 .taken), bit-next (l .c) (l .inv .2)))
+    (λ w. (search needs, bits-kept _ _ _ _ (l .c) (w .1) (l .inv .1) r (w .0 .left), bit-next (l .c) (l .inv .2)))
+    (c .if2 .came)
 
 cast-result : tie.Need-cast-result Inv-loop μ-loop
 cast-result c = search bits

@@ -1,10 +1,10 @@
 -- `good` meets its contract. Assumes nothing.
-use Rattle.solver.proofs.GoodLaws.{goodness}
+use Rattle.solver.proofs.GoodLaws.{goodness, node-fits}
 use Rattle.solver.proofs.words.good.Statement.{statement}
 use Rattle.solver.proofs.words.good.Tie as tie
 
 mul-kept : tie.Need-mul-kept
-mul-kept c = search goodness
+mul-kept c = search node-fits
 
 add-kept : tie.Need-add-kept
 add-kept c = search goodness
