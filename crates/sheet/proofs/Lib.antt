@@ -1,1 +1,11 @@
 -- Laws of the definitions of specs/, on which the proofs of the functions rest.
+pub mod More
+pub mod FormLaws
+pub mod KindLaws
+pub mod CheckLaws
+pub mod SizeLaws
+pub mod ReadLaws
+pub mod GridLaws
+pub mod Accepted
+pub mod Legality
+pub mod Cases

@@ -7,6 +7,8 @@ use crate::form::placed;
 use crate::form::wide;
 use crate::kinds::controller_at;
 use crate::kinds::positions_ok;
+use crate::limits::MOST_ACTIONS;
+use crate::limits::MOST_DELAY;
 use crate::lines::all_leave;
 use crate::lines::moves_ok;
 use crate::lines::targets_ok;
@@ -14,12 +16,12 @@ use crate::refusal::Refusal;
 use crate::refusal::number;
 use crate::size::size_ok;
 ghost use mathlib.Core.Path.{_≡_};
-ghost use Rattle.sheet.specs.Checks.{headerOk};
+ghost use Prim.Native.Nat.{_≤_};
+ghost use lib.ListN.{length};
+ghost use Rattle.theory.specs.Answer.{accepted, check};
+ghost use Rattle.sheet.specs.Limits.{mostPositions};
+ghost use Rattle.sheet.specs.Checks.{headerOk, targetsOk, movesOk, allLeave, sizeOk};
 ghost use Rattle.sheet.specs.Reading.{layoutOf, readAnswer, meaning, refusalNumber};
-
-const MOST_ACTIONS: u8 = 8;
-
-const MOST_DELAY: u8 = 6;
 
 // What an accepted reading carries: the start bytes and the places of the bodies.
 pub struct Layout {
@@ -32,6 +34,7 @@ pub struct Layout {
     pub moves: Place,
 }
 
+// The answer to every list of bytes.
 pub enum Reading {
     Accepted(Layout),
     Refused(Refusal),
@@ -58,6 +61,7 @@ fn header_ok(p: &[u8], h: &[u8]) -> bool
     controller_at(p, wide(h[0]))
 }
 
+// The layout that the contents and the S body give.
 fn layout_at(s: &[u8]) -> Layout
     ensures { λ r. ⌜ r ≡ layoutOf (now (s .entry)) ⌝ }
 {
@@ -80,6 +84,27 @@ fn layout_at(s: &[u8]) -> Layout
     }
 }
 
+// Checks 4 to 7, and acceptance.
+fn check_lines(l: Layout, p: &[u8], c: &[u8], u: &[u8]) -> Reading
+    requires { ⌜ length (now p) ≤ mostPositions ⌝ }
+    ensures { λ r. ⌜ meaning r ≡ check (targetsOk (now (p .entry)) (l .actions) (now (c .entry))) 4 (check (movesOk (now (p .entry)) (now (u .entry))) 5 (check (allLeave (now (p .entry)) (now (c .entry)) (now (u .entry))) 6 (check (sizeOk (now (p .entry)) (l .actions) (l .delay)) 7 (accepted l)))) ⌝ }
+{
+    if !targets_ok(p, l.actions, c) {
+        return Reading::Refused(Refusal::Targets);
+    }
+    if !moves_ok(p, u) {
+        return Reading::Refused(Refusal::Moves);
+    }
+    if !all_leave(p, c, u) {
+        return Reading::Refused(Refusal::Stuck);
+    }
+    if !size_ok(p, l.actions, l.delay) {
+        return Reading::Refused(Refusal::Size);
+    }
+    Reading::Accepted(l)
+}
+
+// Reading a game sheet: the seven checks in the order written.
 pub fn read(sheet: &[u8]) -> Reading
     ensures { λ r. ⌜ meaning r ≡ readAnswer (now (sheet .entry)) ⌝ }
 {
@@ -93,22 +118,7 @@ pub fn read(sheet: &[u8]) -> Reading
     if !header_ok(p, body(sheet, 0)) {
         return Reading::Refused(Refusal::Header);
     }
-    let l = layout_at(sheet);
-    let c = body(sheet, 2);
-    if !targets_ok(p, l.actions, c) {
-        return Reading::Refused(Refusal::Targets);
-    }
-    let u = body(sheet, 3);
-    if !moves_ok(p, u) {
-        return Reading::Refused(Refusal::Moves);
-    }
-    if !all_leave(p, c, u) {
-        return Reading::Refused(Refusal::Stuck);
-    }
-    if !size_ok(p, l.actions, l.delay) {
-        return Reading::Refused(Refusal::Size);
-    }
-    Reading::Accepted(l)
+    check_lines(layout_at(sheet), p, body(sheet, 2), body(sheet, 3))
 }
 
 // The number of a reading's refusal, 0 where it was accepted: what `let else` hands on, as its else binds nothing.

@@ -1,20 +1,16 @@
-use borrow.Author.Needs.{needs}
+-- `sheet::form::byte` meets its contract, by the laws of proofs/FormLaws.antt. Assumes nothing.
+use Rattle.sheet.proofs.FormLaws.{bytes}
 use Rattle.sheet.proofs.form.byte.Statement.{statement}
 use Rattle.sheet.proofs.form.byte.Tie as tie
-use Rattle.sheet.proofs.form.byte.Reads as reads
-use Rattle.sheet.proofs.form.byte.Lts as lts
 
--- src/form.rt:27:22
 shared-slice-read-result : tie.Need-shared-slice-read-result
-shared-slice-read-result c = search needs
+shared-slice-read-result c = search bytes
 
--- src/form.rt:24:1
 returns : tie.Need-returns
-returns c = search needs
+returns c = search bytes
 
--- src/form.rt:24:1
 returns-2 : tie.Need-returns-2
-returns-2 c = search needs
+returns-2 c = search bytes
 
 pub byte-spec : {M : Type 1} → statement M
 byte-spec = tie.close (tie.spec shared-slice-read-result returns returns-2)

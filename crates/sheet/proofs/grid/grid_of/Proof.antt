@@ -1,95 +1,90 @@
+-- `sheet::grid::grid_of` meets its contract, by the laws of proofs/GridLaws.antt. The loop has the grid of the first k lines.
+-- Assumes nothing.
+use Prim.Native.Nat.{_+_, _-_, _*_, _/_, _≤_}
+use mathlib.Core.Path.{_≡_, _∙_}
+use mathlib.Core.Logic.{⊎-elim}
+use native.Mathlib.Omega.{arith}
+use lib.ListN.{length}
 use borrow.Author.Needs.{needs}
+use Rattle.sheet.specs.Meant.{gridAfter}
+use Rattle.sheet.proofs.GridLaws.{grid-start, grid-line, grid-skip, grid-done}
 use Rattle.sheet.proofs.grid.grid_of.Statement.{statement}
 use Rattle.sheet.proofs.grid.grid_of.Tie as tie
-use Rattle.sheet.proofs.grid.grid_of.Reads as reads
-use Rattle.sheet.proofs.grid.grid_of.Lts as lts
-use Rattle.sheet.proofs.form.wide.Reads as wide-reads
 
 abbrev Inv-loop : tie.InvT-loop
-Inv-loop c n grid₀ k₀ grid k = ?
+Inv-loop c n grid₀ k₀ grid k = (k ≤ length c / 3) × (grid ≡ gridAfter c k)
 
 abbrev μ-loop : tie.MeasureT-loop
-μ-loop c n grid₀ k₀ grid k = ?
+μ-loop c n grid₀ k₀ grid k = length c / 3 - k
 
--- src/grid.rt:18:5
 loop-holds : tie.Need-loop-holds Inv-loop μ-loop
-loop-holds c = search needs
+loop-holds c = (omega arith, grid-start (c .before .args .c .now))
 
--- src/grid.rt:19:27
 mul-wide : tie.Need-mul-wide Inv-loop μ-loop
-mul-wide c = search needs
+mul-wide c = omega arith
 
--- src/grid.rt:19:25
 shared-slice-read-wide : tie.Need-shared-slice-read-wide Inv-loop μ-loop
-shared-slice-read-wide c = search needs
+shared-slice-read-wide c = omega arith
 
--- src/grid.rt:19:13
 wide-requires : tie.Need-wide-requires Inv-loop μ-loop
 wide-requires c κs = search needs
 
--- src/grid.rt:20:29
 mul-wide-2 : tie.Need-mul-wide-2 Inv-loop μ-loop
-mul-wide-2 c = search needs
+mul-wide-2 c = omega arith
 
--- src/grid.rt:20:29
 add-wide : tie.Need-add-wide Inv-loop μ-loop
-add-wide c = search needs
+add-wide c = omega arith
 
--- src/grid.rt:20:27
 shared-slice-read-wide-2 : tie.Need-shared-slice-read-wide-2 Inv-loop μ-loop
-shared-slice-read-wide-2 c = search needs
+shared-slice-read-wide-2 c = omega arith
 
--- src/grid.rt:20:13
 wide-requires-2 : tie.Need-wide-requires-2 Inv-loop μ-loop
 wide-requires-2 c κs = search needs
 
--- src/grid.rt:21:20
 mul-to : tie.Need-mul-to Inv-loop μ-loop
-mul-to c = search needs
+mul-to c = omega arith
 
--- src/grid.rt:21:20
 add-to : tie.Need-add-to Inv-loop μ-loop
-add-to c = search needs
+add-to c = omega arith
 
--- src/grid.rt:21:18
 shared-slice-read-to : tie.Need-shared-slice-read-to Inv-loop μ-loop
-shared-slice-read-to c = search needs
+shared-slice-read-to c = omega arith
 
--- src/grid.rt:21:18
 cast-to : tie.Need-cast-to Inv-loop μ-loop
-cast-to c = search needs
+cast-to c = omega (arith, c .shared-slice-known4 .given (3 * c .before .before .before .before .before .before .loop .k + 2))
 
--- src/grid.rt:23:13
 mul-grid : tie.Need-mul-grid Inv-loop μ-loop
-mul-grid c = search needs
+mul-grid c = omega arith
 
--- src/grid.rt:23:13
 mul-grid-2 : tie.Need-mul-grid-2 Inv-loop μ-loop
-mul-grid-2 c = search needs
+mul-grid-2 c = omega arith
 
--- src/grid.rt:23:13
 index-1-grid : tie.Need-index-1-grid Inv-loop μ-loop
-index-1-grid c = search needs
+index-1-grid c = omega arith
 
--- src/grid.rt:23:13
 index-2-grid : tie.Need-index-2-grid Inv-loop μ-loop
-index-2-grid c = search needs
+index-2-grid c = omega arith
 
--- src/grid.rt:25:9
 add-k : tie.Need-add-k Inv-loop μ-loop
-add-k c = search needs
+add-k c = omega arith
 
--- src/grid.rt:18:5
 loop-less : tie.Need-loop-less Inv-loop μ-loop
-loop-less c = search needs
+loop-less c = omega arith
 
--- src/grid.rt:18:5
 loop-again : tie.Need-loop-again Inv-loop μ-loop
-loop-again c = search needs
+loop-again c =
+    let turn = c .before .before .before .before .before .before .before .loop .inv in
+    let from = c .before .before .before .before .wide .ensures in
+    let action = c .before .before .wide2 .ensures .0 in (
+      omega arith,
+      ⊎-elim
+          (λ w. w .1 ∙ grid-line _ _ _ _ _ (turn .1) (from .0) (from .1) action (w .0 .taken))
+          (λ w. w .1 ∙ grid-skip _ _ _ _ _ (turn .1) (from .0) action (w .0 .left))
+          (c .if1 .came),
+    )
 
--- src/grid.rt:11:1
 returns : tie.Need-returns Inv-loop μ-loop
-returns c = search needs
+returns c = search grid-done
 
 pub grid-of-spec : {M : Type 1} → statement M
 grid-of-spec =

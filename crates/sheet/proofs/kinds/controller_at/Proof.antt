@@ -1,29 +1,22 @@
-use borrow.Author.Needs.{needs}
+-- `sheet::kinds::controller_at` meets its contract, by the laws of proofs/KindLaws.antt. Assumes nothing.
+use Rattle.sheet.proofs.KindLaws.{kinds}
 use Rattle.sheet.proofs.kinds.controller_at.Statement.{statement}
 use Rattle.sheet.proofs.kinds.controller_at.Tie as tie
-use Rattle.sheet.proofs.kinds.controller_at.Reads as reads
-use Rattle.sheet.proofs.kinds.controller_at.Lts as lts
-use Rattle.sheet.proofs.kinds.kind_at.Reads as kind-at-reads
 
--- src/kinds.rt:49:11
 kind-at-requires : tie.Need-kind-at-requires
-kind-at-requires c κs = search needs
+kind-at-requires c κs = search kinds
 
--- src/kinds.rt:51:13
 enum-known-controller : tie.Need-enum-known-controller
-enum-known-controller c = search needs
+enum-known-controller c = search kinds
 
--- src/kinds.rt:54:26
 enum-told : tie.Need-enum-told
-enum-told c = search needs
+enum-told c = search kinds
 
--- src/kinds.rt:46:1
 returns : tie.Need-returns
-returns c = search needs
+returns c = search kinds
 
--- src/kinds.rt:46:1
 returns-2 : tie.Need-returns-2
-returns-2 c = search needs
+returns-2 c = search kinds
 
 pub controller-at-spec : {M : Type 1} → statement M
 controller-at-spec =

@@ -1,51 +1,48 @@
-use borrow.Author.Needs.{needs}
+-- `sheet::lines::has_line` meets its contract, by the laws of proofs/CheckLaws.antt. The loop has passed k lines that begin otherwise.
+-- Assumes nothing.
+use Prim.Native.Nat.{_≤_, _-_}
+use mathlib.Core.Path.{_≡_}
+use mathlib.Core.Bool.{false}
+use native.Mathlib.Omega.{arith}
+use Rattle.theory.specs.Fold.{anyBelow}
+use Rattle.sheet.specs.Checks.{beginsAt}
+use Rattle.sheet.proofs.CheckLaws.{some-line, line-within}
 use Rattle.sheet.proofs.lines.has_line.Statement.{statement}
 use Rattle.sheet.proofs.lines.has_line.Tie as tie
-use Rattle.sheet.proofs.lines.has_line.Reads as reads
-use Rattle.sheet.proofs.lines.has_line.Lts as lts
-use Rattle.sheet.proofs.form.wide.Reads as wide-reads
 
 abbrev Inv-loop : tie.InvT-loop
-Inv-loop width b n q k₀ k = ?
+Inv-loop width b n q k₀ k = (k ≤ n) × (anyBelow (beginsAt width b q) k ≡ false)
 
 abbrev μ-loop : tie.MeasureT-loop
-μ-loop width b n q k₀ k = ?
+μ-loop width b n q k₀ k = n - k
 
--- src/lines.rt:107:5
 loop-holds : tie.Need-loop-holds Inv-loop μ-loop
-loop-holds c = search needs
+loop-holds c = search some-line
 
--- src/lines.rt:108:27
 mul-wide : tie.Need-mul-wide Inv-loop μ-loop
-mul-wide c = search needs
+mul-wide c = omega (arith, line-within _ _ _ (c .before .before .before .pre .0) (c .loop-test .taken))
 
--- src/lines.rt:108:25
 shared-slice-read-wide : tie.Need-shared-slice-read-wide Inv-loop μ-loop
-shared-slice-read-wide c = search needs
+shared-slice-read-wide c =
+    omega (arith, line-within _ _ _ (c .before .before .before .before .pre .0) (c .before .loop-test .taken))
 
--- src/lines.rt:108:13
 wide-requires : tie.Need-wide-requires Inv-loop μ-loop
-wide-requires c κs = search needs
+wide-requires c κs = search some-line
 
--- src/lines.rt:110:13
 returns : tie.Need-returns Inv-loop μ-loop
-returns c = search needs
+returns c = search some-line
 
--- src/lines.rt:112:9
 add-k : tie.Need-add-k Inv-loop μ-loop
-add-k c = search needs
+add-k c = search some-line
 
--- src/lines.rt:107:5
 loop-less : tie.Need-loop-less Inv-loop μ-loop
-loop-less c = search needs
+loop-less c = search some-line
 
--- src/lines.rt:107:5
 loop-again : tie.Need-loop-again Inv-loop μ-loop
-loop-again c = search needs
+loop-again c = search some-line
 
--- src/lines.rt:102:1
 returns-2 : tie.Need-returns-2 Inv-loop μ-loop
-returns-2 c = search needs
+returns-2 c = search some-line
 
 pub has-line-spec : {M : Type 1} → statement M
 has-line-spec =

@@ -1,11 +1,13 @@
+-- `sheet::reading::layout_at` meets its contract, by the laws of proofs/ReadLaws.antt. Assumes nothing.
 use borrow.Author.Needs.{needs}
-use Rattle.sheet.proofs.reading.layout_at.Statement.{statement}
-use Rattle.sheet.proofs.reading.layout_at.Tie as tie
+use Rattle.sheet.proofs.ReadLaws.{layout-is}
 use Rattle.sheet.proofs.reading.layout_at.Reads as reads
 use Rattle.sheet.proofs.reading.layout_at.Lts as lts
 use Rattle.sheet.proofs.form.body.Reads as body-reads
 use Rattle.sheet.proofs.form.byte.Reads as byte-reads
 use Rattle.sheet.proofs.form.placed.Reads as placed-reads
+use Rattle.sheet.proofs.reading.layout_at.Statement.{statement}
+use Rattle.sheet.proofs.reading.layout_at.Tie as tie
 
 -- src/reading.rt:64:9
 body-requires : tie.Need-body-requires
@@ -41,7 +43,7 @@ placed-requires-4 c κs = search needs
 
 -- src/reading.rt:61:1
 returns : tie.Need-returns
-returns c = search needs
+returns c = search layout-is
 
 pub layout-at-spec : {M : Type 1} → statement M
 layout-at-spec =

@@ -1,29 +1,22 @@
-use borrow.Author.Needs.{needs}
+-- `sheet::reading::refusal_number` meets its contract, by the laws of proofs/ReadLaws.antt. Assumes nothing.
+use Rattle.sheet.proofs.ReadLaws.{numbers}
 use Rattle.sheet.proofs.reading.refusal_number.Statement.{statement}
 use Rattle.sheet.proofs.reading.refusal_number.Tie as tie
-use Rattle.sheet.proofs.reading.refusal_number.Reads as reads
-use Rattle.sheet.proofs.reading.refusal_number.Lts as lts
-use Rattle.sheet.proofs.refusal.number.Reads as number-reads
 
--- src/reading.rt:119:33
 enum-told : tie.Need-enum-told
-enum-told c = search needs
+enum-told c = search numbers
 
--- src/reading.rt:120:26
 enum-known-r : tie.Need-enum-known-r
-enum-known-r c = search needs
+enum-known-r c = search numbers
 
--- src/reading.rt:120:38
 number-requires : tie.Need-number-requires
-number-requires c κs = search needs
+number-requires c κs = search numbers
 
--- src/reading.rt:115:1
 returns : tie.Need-returns
-returns c = search needs
+returns c = search numbers
 
--- src/reading.rt:115:1
 returns-2 : tie.Need-returns-2
-returns-2 c = search needs
+returns-2 c = search numbers
 
 pub refusal-number-spec : {M : Type 1} → statement M
 refusal-number-spec = tie.close (tie.spec enum-told enum-known-r number-requires returns returns-2)

@@ -1,47 +1,42 @@
-use borrow.Author.Needs.{needs}
+-- `sheet::size::power` meets its contract, by the laws of proofs/SizeLaws.antt. The loop has r at the power i, not cut off.
+-- Assumes nothing.
+use Prim.Native.Nat.{_≤_, _-_, _^_}
+use mathlib.Core.Path.{_≡_}
+use native.Mathlib.Omega.{arith}
+use Rattle.sheet.specs.Limits.{mostPower}
+use Rattle.sheet.proofs.SizeLaws.{powers, product-small}
 use Rattle.sheet.proofs.size.power.Statement.{statement}
 use Rattle.sheet.proofs.size.power.Tie as tie
-use Rattle.sheet.proofs.size.power.Reads as reads
-use Rattle.sheet.proofs.size.power.Lts as lts
-use Rattle.sheet.proofs.form.wide.Reads as wide-reads
 
 abbrev Inv-loop : tie.InvT-loop
-Inv-loop base exponent r₀ i₀ r i = ?
+Inv-loop base exponent r₀ i₀ r i = (i ≤ exponent) × (r ≡ base ^ i) × (r ≤ mostPower)
 
 abbrev μ-loop : tie.MeasureT-loop
-μ-loop base exponent r₀ i₀ r i = ?
+μ-loop base exponent r₀ i₀ r i = exponent - i
 
--- src/size.rt:19:5
 loop-holds : tie.Need-loop-holds Inv-loop μ-loop
-loop-holds c = search needs
+loop-holds c = search powers
 
--- src/size.rt:20:17
 wide-requires : tie.Need-wide-requires Inv-loop μ-loop
-wide-requires c κs = search needs
+wide-requires c κs = search powers
 
--- src/size.rt:20:13
 mul-r : tie.Need-mul-r Inv-loop μ-loop
-mul-r c = search needs
+mul-r c = omega (arith, product-small (c .before .before .loop .inv .2) (c .wide .ensures .0) (c .wide .ensures .1))
 
--- src/size.rt:22:13
 returns : tie.Need-returns Inv-loop μ-loop
-returns c = search needs
+returns c = search powers
 
--- src/size.rt:24:9
 add-i : tie.Need-add-i Inv-loop μ-loop
-add-i c = search needs
+add-i c = search powers
 
--- src/size.rt:19:5
 loop-less : tie.Need-loop-less Inv-loop μ-loop
-loop-less c = search needs
+loop-less c = search powers
 
--- src/size.rt:19:5
 loop-again : tie.Need-loop-again Inv-loop μ-loop
-loop-again c = search needs
+loop-again c = search powers
 
--- src/size.rt:14:1
 returns-2 : tie.Need-returns-2 Inv-loop μ-loop
-returns-2 c = search needs
+returns-2 c = search powers
 
 pub power-spec : {M : Type 1} → statement M
 power-spec =

@@ -1,0 +1,215 @@
+-- Checks 3 to 7, as the code of src/lines.rt, size.rt and reading.rt finds them. Assumes nothing.
+use Prim.Native.Nat.{ℕ, _+_, _-_, _*_, _/_, _%_, _≤_, _<_}
+use mathlib.Core.Path.{_≡_, refl, sym, _∙_, ap}
+use mathlib.Core.Bool.{Bool, true, false, not}
+use mathlib.Core.List.{List}
+use native.Mathlib.Omega.{arith}
+use native.Mathlib.Nat.{mul-le-mul-left, mul-lt-mul-of-pos-left}
+use lib.Dec.{ltb}
+use lib.ListN.{length, getD}
+use borrow.Author.Needs.{needs}
+use borrow.Author.Tests.{le-leb, lt-leb, lt-ltb, le-ltb, eq-eqb, ne-eqb}
+use Rattle.theory.specs.Fold.{allBelow, anyBelow}
+use Rattle.theory.proofs.Fold.{both-true, both-false, either-left, all-none, all-done, any-none, any-holds, any-again, any-done}
+use Rattle.sheet.proofs.More.{both-none, both-second, either-second, failed, passed, all-next, all-stopped}
+use Rattle.sheet.specs.Kinds.{controllerAt, environmentAt}
+use Rattle.sheet.specs.Checks.{headerOk, keyAt, risesAt, targetOk, targetsOk, moveOk, movesOk, beginsAt, hasLine, leavesAt, allLeave}
+
+-- check 3: the passed tests, then the failed one
+
+module _ (p h : List ℕ) where
+  pub header-length : (length h ≡ 3 → ⊥) → false ≡ headerOk p h
+  unfolding headerOk
+  header-length e = sym (both-none _ _ (ne-eqb _ _ e))
+
+  pub no-action : getD h 1 0 < 1 → false ≡ headerOk p h
+  unfolding headerOk
+  no-action e = sym (both-false _ _ (both-none _ _ (lt-leb 1 (getD h 1 0) e)))
+
+  pub many-actions : 8 < getD h 1 0 → false ≡ headerOk p h
+  unfolding headerOk
+  many-actions e = sym (both-false _ _ (both-false _ _ (both-none _ _ (lt-leb (getD h 1 0) 8 e))))
+
+  pub long-delay : 6 < getD h 2 0 → false ≡ headerOk p h
+  unfolding headerOk
+  long-delay e = sym (both-false _ _ (both-false _ _ (both-false _ _ (both-none _ _ (lt-leb (getD h 2 0) 6 e)))))
+
+  pub header-start : (w : ℕ) (r : Bool) → length h ≡ 3 → 1 ≤ getD h 1 0 → getD h 1 0 ≤ 8 → getD h 2 0 ≤ 6 → w ≡ getD h 0 0
+      → r ≡ controllerAt p w → r ≡ headerOk p h
+  unfolding headerOk
+  header-start w r l a b d e f =
+      (f ∙ ap (controllerAt p) e)
+      ∙ sym
+      (both-second _ _ (eq-eqb _ _ l)
+      ∙ both-second _ _ (le-leb _ _ a)
+      ∙ both-second _ _ (le-leb _ _ b)
+      ∙ both-second _ _ (le-leb _ _ d))
+
+pub ruleset header = (needs, header-length, no-action, many-actions, long-delay, header-start)
+
+-- keys of lines
+
+pub key-is : (b : List ℕ) (i w v : ℕ) → w ≡ getD b i 0 → v ≡ getD b (i + 1) 0 → w * 256 + v ≡ keyAt b i
+unfolding keyAt
+key-is b i w v p q = rw (p, q)
+
+pub earlier : (w k : ℕ) → w * (k - 1) ≤ w * k
+earlier w k = mul-le-mul-left w (omega arith)
+
+pub first-rises : (w : ℕ) (b : List ℕ) (k : ℕ) → k ≡ 0 → true ≡ risesAt w b k
+unfolding risesAt
+first-rises w b k e = sym (either-left _ _ (eq-eqb _ _ e))
+
+pub later-rises : (w : ℕ) (b : List ℕ) (k x y : ℕ) → (k ≡ 0 → ⊥) → x ≡ keyAt b (w * (k - 1)) → y ≡ keyAt b (w * k)
+    → ltb x y ≡ risesAt w b k
+unfolding risesAt
+later-rises w b k x y e p q = rw (p, q) (sym (either-second _ _ (ne-eqb _ _ e)))
+
+pub ruleset keys = (needs, key-is, first-rises, later-rises)
+
+-- check 4; w is a byte as a number
+
+module _ (p : List ℕ) (a : ℕ) (c : List ℕ) (k : ℕ) where
+  pub target-from : (w : ℕ) (r : Bool) → w ≡ getD c (3 * k) 0 → r ≡ controllerAt p w → not r ≡ true → false ≡ targetOk p a c k
+  unfolding targetOk
+  target-from w r e f g = sym (both-none _ _ (ap (controllerAt p) (sym e) ∙ failed f g))
+
+  pub target-action : a ≤ getD c (3 * k + 1) 0 → false ≡ targetOk p a c k
+  unfolding targetOk
+  target-action h = sym (both-false _ _ (both-none _ _ (le-ltb _ _ h)))
+
+  pub target-to : (w : ℕ) (r : Bool) → w ≡ getD c (3 * k + 2) 0 → r ≡ environmentAt p w → not r ≡ true → false ≡ targetOk p a c k
+  unfolding targetOk
+  target-to w r e f g = sym (both-false _ _ (both-false _ _ (both-none _ _ (ap (environmentAt p) (sym e) ∙ failed f g))))
+
+  pub target-rises : (w v : ℕ) (x y r : Bool) → w ≡ getD c (3 * k) 0 → x ≡ controllerAt p w → not x ≡ false
+      → getD c (3 * k + 1) 0 < a → v ≡ getD c (3 * k + 2) 0 → y ≡ environmentAt p v → not y ≡ false → r ≡ risesAt 3 c k
+      → r ≡ targetOk p a c k
+  unfolding targetOk
+  target-rises w v x y r e f g h i j l m =
+      m
+      ∙ sym
+      (both-second _ _ (ap (controllerAt p) (sym e) ∙ passed f g)
+      ∙ both-second _ _ (lt-ltb _ _ h)
+      ∙ both-second _ _ (ap (environmentAt p) (sym i) ∙ passed j l))
+
+pub ruleset a-target = (needs, target-from, target-action, target-to, target-rises)
+
+module _ (p : List ℕ) (a : ℕ) (c : List ℕ) where
+  pub targets-over : (length c % 3 ≡ 0 → ⊥) → false ≡ targetsOk p a c
+  unfolding targetsOk
+  targets-over e = sym (both-none _ _ (ne-eqb _ _ e))
+
+  pub targets-bad : (k : ℕ) (r : Bool) → k < length c / 3 → r ≡ targetOk p a c k → not r ≡ true → false ≡ targetsOk p a c
+  unfolding targetsOk
+  targets-bad k r h e f = sym (both-false _ _ (all-stopped (targetOk p a c) k (length c / 3) h e f))
+
+  pub targets-again : (k : ℕ) (r : Bool) → allBelow (targetOk p a c) k ≡ true → r ≡ targetOk p a c k → not r ≡ false
+      → allBelow (targetOk p a c) (k + 1) ≡ true
+  targets-again k r = all-next (targetOk p a c) k
+
+  pub targets-right : (k : ℕ) → length c % 3 ≡ 0 → k ≤ length c / 3 → length c / 3 ≤ k → allBelow (targetOk p a c) k ≡ true
+      → true ≡ targetsOk p a c
+  unfolding targetsOk
+  targets-right k e l g t = sym (both-true _ _ (eq-eqb _ _ e) (all-done (targetOk p a c) l g t))
+
+pub ruleset targets = (needs, all-none, targets-over, targets-bad, targets-again, targets-right)
+
+-- check 5
+
+module _ (p u : List ℕ) (k : ℕ) where
+  pub move-from : (w : ℕ) (r : Bool) → w ≡ getD u (2 * k) 0 → r ≡ environmentAt p w → not r ≡ true → false ≡ moveOk p u k
+  unfolding moveOk
+  move-from w r e f g = sym (both-none _ _ (ap (environmentAt p) (sym e) ∙ failed f g))
+
+  pub move-to : (w : ℕ) (r : Bool) → w ≡ getD u (2 * k + 1) 0 → r ≡ controllerAt p w → not r ≡ true → false ≡ moveOk p u k
+  unfolding moveOk
+  move-to w r e f g = sym (both-false _ _ (both-none _ _ (ap (controllerAt p) (sym e) ∙ failed f g)))
+
+  pub move-rises : (w v : ℕ) (x y r : Bool) → w ≡ getD u (2 * k) 0 → x ≡ environmentAt p w → not x ≡ false
+      → v ≡ getD u (2 * k + 1) 0 → y ≡ controllerAt p v → not y ≡ false → r ≡ risesAt 2 u k → r ≡ moveOk p u k
+  unfolding moveOk
+  move-rises w v x y r e f g i j l m =
+      m
+      ∙ sym
+      (both-second _ _ (ap (environmentAt p) (sym e) ∙ passed f g)
+      ∙ both-second _ _ (ap (controllerAt p) (sym i) ∙ passed j l))
+
+pub ruleset a-move = (needs, move-from, move-to, move-rises)
+
+module _ (p u : List ℕ) where
+  pub moves-over : (length u % 2 ≡ 0 → ⊥) → false ≡ movesOk p u
+  unfolding movesOk
+  moves-over e = sym (both-none _ _ (ne-eqb _ _ e))
+
+  pub moves-many : 4096 < length u / 2 → false ≡ movesOk p u
+  unfolding movesOk
+  moves-many h = sym (both-false _ _ (both-none _ _ (lt-leb _ _ h)))
+
+  pub moves-bad : (k : ℕ) (r : Bool) → k < length u / 2 → r ≡ moveOk p u k → not r ≡ true → false ≡ movesOk p u
+  unfolding movesOk
+  moves-bad k r h e f = sym (both-false _ _ (both-false _ _ (all-stopped (moveOk p u) k (length u / 2) h e f)))
+
+  pub moves-again : (k : ℕ) (r : Bool) → allBelow (moveOk p u) k ≡ true → r ≡ moveOk p u k → not r ≡ false
+      → allBelow (moveOk p u) (k + 1) ≡ true
+  moves-again k r = all-next (moveOk p u) k
+
+  pub moves-right : (k : ℕ) → length u % 2 ≡ 0 → length u / 2 ≤ 4096 → k ≤ length u / 2 → length u / 2 ≤ k
+      → allBelow (moveOk p u) k ≡ true → true ≡ movesOk p u
+  unfolding movesOk
+  moves-right k e m l g t =
+      sym (both-true _ _ (eq-eqb _ _ e) (both-true _ _ (le-leb _ _ m) (all-done (moveOk p u) l g t)))
+
+pub ruleset moves = (needs, all-none, moves-over, moves-many, moves-bad, moves-again, moves-right)
+
+-- check 6
+
+-- a line of w bytes within the first n lies within them whole
+pub line-within : (w k n : ℕ) → 1 ≤ w → k < n → w * k < w * n
+line-within w k n h l = mul-lt-mul-of-pos-left l h
+
+module _ (w : ℕ) (b : List ℕ) (n q : ℕ) where
+  this : (k v : ℕ) → v ≡ getD b (w * k) 0 → v ≡ q → beginsAt w b q k ≡ true
+  unfolding beginsAt
+  this k v e f = eq-eqb _ _ (sym e ∙ f)
+
+  pub line-found : (k v : ℕ) → k < n → v ≡ getD b (w * k) 0 → v ≡ q → true ≡ hasLine w b n q
+  unfolding hasLine
+  line-found k v h e f = sym (any-holds (beginsAt w b q) k n h (this k v e f))
+
+  other : (k v : ℕ) → v ≡ getD b (w * k) 0 → (v ≡ q → ⊥) → beginsAt w b q k ≡ false
+  unfolding beginsAt
+  other k v e f = ne-eqb _ _ (λ x. f (e ∙ x))
+
+  pub lines-again : (k v : ℕ) → anyBelow (beginsAt w b q) k ≡ false → v ≡ getD b (w * k) 0 → (v ≡ q → ⊥)
+      → anyBelow (beginsAt w b q) (k + 1) ≡ false
+  lines-again k v a e f = any-again (beginsAt w b q) k a refl (other k v e f)
+
+  pub line-missing : (k : ℕ) → k ≤ n → n ≤ k → anyBelow (beginsAt w b q) k ≡ false → false ≡ hasLine w b n q
+  unfolding hasLine
+  line-missing k l g a = sym (any-done (beginsAt w b q) l g a)
+
+pub ruleset some-line = (needs, any-none, line-found, lines-again, line-missing)
+
+module _ (p c u : List ℕ) where
+  pub leaves-own : (q : ℕ) (x r : Bool) → x ≡ controllerAt p q → x ≡ true → r ≡ hasLine 3 c (length c / 3) q → r ≡ leavesAt p c u q
+  unfolding leavesAt
+  leaves-own q x r e f g = rw (sym e ∙ f) g
+
+  pub leaves-other : (q : ℕ) (x r : Bool) → x ≡ controllerAt p q → x ≡ false → r ≡ hasLine 2 u (length u / 2) q → r ≡ leavesAt p c u q
+  unfolding leavesAt
+  leaves-other q x r e f g = rw (sym e ∙ f) g
+
+  pub stuck-at : (q : ℕ) (r : Bool) → q < length p → r ≡ leavesAt p c u q → not r ≡ true → false ≡ allLeave p c u
+  unfolding allLeave
+  stuck-at q r h e f = sym (all-stopped (leavesAt p c u) q (length p) h e f)
+
+  pub leave-again : (q : ℕ) (r : Bool) → allBelow (leavesAt p c u) q ≡ true → r ≡ leavesAt p c u q → not r ≡ false
+      → allBelow (leavesAt p c u) (q + 1) ≡ true
+  leave-again q r = all-next (leavesAt p c u) q
+
+  pub leave-all : (q : ℕ) → q ≤ length p → length p ≤ q → allBelow (leavesAt p c u) q ≡ true → true ≡ allLeave p c u
+  unfolding allLeave
+  leave-all q l g t = sym (all-done (leavesAt p c u) l g t)
+
+pub ruleset leaving = (needs, all-none, leaves-own, leaves-other, stuck-at, leave-again, leave-all)

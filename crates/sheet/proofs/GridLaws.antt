@@ -1,0 +1,142 @@
+-- The grid of targets: filling it line by line, as the code of src/grid.rt does. Assumes nothing.
+use Prim.Native.Nat.{ℕ, suc, _+_, _*_, _/_, _≤_, _<_}
+use mathlib.Core.Path.{_≡_, refl, sym, _∙_, ap}
+use mathlib.Core.Bool.{true, false, cond}
+use mathlib.Core.Logic.{_⊎_, inl, inr, ⊎-elim}
+use mathlib.Core.List.{List, []}
+use native.Mathlib.Omega.{arith}
+use native.Mathlib.Numerals.{add-one}
+use lib.Dec.{eqb}
+use lib.ListN.{length, getD, set, replicate, length-set, length-replicate, getD-replicate}
+use lib.Seq.{getD-set-same, getD-set-other, ext-getD}
+use borrow.Author.Tests.{eq-eqb, ne-eqb, eqb-true, eqb-false}
+use Rattle.theory.specs.Fold.{tabulate}
+use Rattle.theory.specs.Game.{to}
+use Rattle.theory.proofs.Fold.{bool, both-true, both-false, length-tabulate, getD-tabulate, tabulate-same}
+use Rattle.sheet.proofs.More.{both-none}
+use Rattle.sheet.specs.Meant.{isLine, targetIn, markOf, rowOf, gridAfter, gridOf}
+
+-- two numbers are the same or not
+same? : (a b : ℕ) → (a ≡ b) ⊎ (a ≡ b → ⊥)
+same? a b = ⊎-elim (λ t. inl (eqb-true a b t)) (λ f. inr (eqb-false a b f)) (bool (eqb a b))
+
+module _ (c : List ℕ) (n : ℕ) where
+  length-row : (q : ℕ) → length (rowOf c n q) ≡ 8
+  unfolding rowOf
+  length-row q = length-tabulate _ 0 8
+
+  pub cell-at : (q x : ℕ) → x < 8 → getD (rowOf c n q) x 256 ≡ markOf (targetIn c q x n)
+  unfolding rowOf
+  cell-at q x h = getD-tabulate (λ x. markOf (targetIn c q x n)) 8 x 256 h
+
+  length-grid : length (gridAfter c n) ≡ 256
+  unfolding gridAfter
+  length-grid = length-tabulate _ 0 256
+
+  pub row-at : (q : ℕ) → q < 256 → getD (gridAfter c n) q [] ≡ rowOf c n q
+  unfolding gridAfter
+  row-at q h = getD-tabulate (rowOf c n) 256 q [] h
+
+module _ (c : List ℕ) (k : ℕ) where
+  pub target-next : (q x : ℕ) → targetIn c q x (suc k) ≡ cond (isLine c q x k) (to (getD c (3 * k + 2) 0)) (targetIn c q x k)
+  unfolding targetIn
+  target-next q x = refl
+
+  -- f, a and t are line k: "from, command, to"
+  module _ (f a t : ℕ) (from : f ≡ getD c (3 * k) 0) (action : a ≡ getD c (3 * k + 1) 0) where
+    here : isLine c f a k ≡ true
+    unfolding isLine
+    here = both-true _ _ (eq-eqb _ _ (sym from)) (eq-eqb _ _ (sym action))
+
+    not-from : (q x : ℕ) → (q ≡ f → ⊥) → isLine c q x k ≡ false
+    unfolding isLine
+    not-from q x n = both-none _ _ (ne-eqb _ _ (λ e. n (sym e ∙ sym from)))
+
+    not-action : (q x : ℕ) → (x ≡ a → ⊥) → isLine c q x k ≡ false
+    unfolding isLine
+    not-action q x n = both-false _ _ (ne-eqb _ _ (λ e. n (sym e ∙ sym action)))
+
+    unchanged : (q x : ℕ) → isLine c q x k ≡ false → targetIn c q x (suc k) ≡ targetIn c q x k
+    unchanged q x e = rw (target-next q x, e)
+
+    row-other : (q : ℕ) → (q ≡ f → ⊥) → rowOf c (suc k) q ≡ rowOf c k q
+    unfolding rowOf
+    row-other q n =
+        tabulate-same (λ x. markOf (targetIn c q x (suc k))) (λ x. markOf (targetIn c q x k)) 0 8
+        (λ x h. ap markOf (unchanged q x (not-from q x n)))
+
+    row-kept : (q : ℕ) → 8 ≤ a → rowOf c (suc k) q ≡ rowOf c k q
+    unfolding rowOf
+    row-kept q m =
+        tabulate-same (λ x. markOf (targetIn c q x (suc k))) (λ x. markOf (targetIn c q x k)) 0 8
+        (λ x h. ap markOf (unchanged q x (not-action q x (λ e. omega arith))))
+
+    -- a line whose action no row has changes nothing
+    pub grid-kept : 8 ≤ a → gridAfter c k ≡ gridAfter c (k + 1)
+    unfolding gridAfter
+    grid-kept m = rw (add-one k) (tabulate-same (rowOf c k) (rowOf c (suc k)) [] 256 (λ q h. sym (row-kept q m)))
+
+    module _ (target : t ≡ getD c (3 * k + 2) 0) (within : f < 256) (small : a < 8) where
+      cell-here : (x : ℕ) → x < 8 → getD (set (rowOf c k f) a t) x 256 ≡ markOf (targetIn c f x (suc k))
+      unfolding markOf
+      cell-here x h =
+          ⊎-elim
+          (λ (e : x ≡ a).
+          rw (e, target-next f a, here)
+          (getD-set-same (rowOf c k f) a t 256 (rw (length-row c k f) small) ∙ target))
+          (λ (n : x ≡ a → ⊥).
+          rw (unchanged f x (not-action f x n)) (getD-set-other (rowOf c k f) a x t 256 n ∙ cell-at c k f x h))
+          (same? x a)
+
+      row-here : set (rowOf c k f) a t ≡ rowOf c (suc k) f
+      row-here =
+          ext-getD 256 _ _ (length-set (rowOf c k f) a t ∙ length-row c k f ∙ sym (length-row c (suc k) f))
+          (λ x h.
+          let m : x < 8 = rw (length-set (rowOf c k f) a t, length-row c k f) at h in
+          cell-here x m ∙ sym (cell-at c (suc k) f x m))
+
+      row-filled : (q : ℕ) → q < 256 → getD (set (gridAfter c k) f (set (rowOf c k f) a t)) q [] ≡ rowOf c (suc k) q
+      row-filled q h =
+          ⊎-elim
+          (λ (e : q ≡ f).
+          rw e (getD-set-same (gridAfter c k) f (set (rowOf c k f) a t) [] (rw (length-grid c k) within) ∙ row-here))
+          (λ (n : q ≡ f → ⊥).
+          getD-set-other (gridAfter c k) f q (set (rowOf c k f) a t) [] n ∙ row-at c k q h ∙ sym (row-other q n))
+          (same? q f)
+
+      pub grid-filled : set (gridAfter c k) f (set (getD (gridAfter c k) f []) a t) ≡ gridAfter c (k + 1)
+      grid-filled =
+          rw (add-one k, row-at c k f within)
+          (ext-getD [] _ _ (length-set (gridAfter c k) f _ ∙ length-grid c k ∙ sym (length-grid c (suc k)))
+          (λ q h.
+          let m : q < 256 = rw (length-set (gridAfter c k) f (set (rowOf c k f) a t), length-grid c k) at h in
+          row-filled q m ∙ sym (row-at c (suc k) q m)))
+
+-- as the loop finds it
+
+module _ (c : List ℕ) (k f a : ℕ) (g : List (List ℕ)) (so-far : g ≡ gridAfter c k) where
+  pub grid-line : f ≡ getD c (3 * k) 0 → getD c (3 * k) 0 < 256 → a ≡ getD c (3 * k + 1) 0 → a < 8
+      → set g f (set (getD g f []) a (getD c (3 * k + 2) 0)) ≡ gridAfter c (k + 1)
+  grid-line from byte action small =
+      rw so-far (grid-filled c k f a (getD c (3 * k + 2) 0) from action refl (omega arith) small)
+
+  pub grid-skip : f ≡ getD c (3 * k) 0 → a ≡ getD c (3 * k + 1) 0 → 8 ≤ a → g ≡ gridAfter c (k + 1)
+  grid-skip from action large = so-far ∙ grid-kept c k f a 0 from action large
+
+pub grid-done : (c : List ℕ) (k : ℕ) (g : List (List ℕ)) → k ≤ length c / 3 → length c / 3 ≤ k → g ≡ gridAfter c k → g ≡ gridOf c
+unfolding gridOf
+grid-done c k g l h e = let done : k ≡ length c / 3 = omega arith in rw done at e
+
+abbrev emptyRow : List ℕ
+emptyRow = replicate 8 256
+
+row-empty : (c : List ℕ) (q : ℕ) → emptyRow ≡ rowOf c 0 q
+unfolding rowOf targetIn markOf tabulate
+row-empty c q = refl
+
+pub grid-start : (c : List ℕ) → replicate 256 emptyRow ≡ gridAfter c 0
+grid-start c =
+    ext-getD [] _ _ (length-replicate 256 emptyRow ∙ sym (length-grid c 0))
+    (λ q h.
+    let m : q < 256 = rw (length-replicate 256 emptyRow) at h in
+    getD-replicate 256 q emptyRow [] m ∙ row-empty c q ∙ sym (row-at c 0 q m))

@@ -1,0 +1,72 @@
+-- Powers that are cut off, and check 7, as the code of src/size.rt finds them. Assumes nothing.
+use Prim.Native.Nat.{ℕ, suc, _+_, _*_, _/_, _^_, _≤_, _<_}
+use mathlib.Core.Path.{_≡_, sym, _∙_}
+use mathlib.Core.Bool.{true, false, cond}
+use mathlib.Core.Logic.{⊎-elim}
+use mathlib.Core.List.{List}
+use native.Mathlib.Omega.{arith}
+use native.Mathlib.Nat.{pow-zero, pow-suc, pow-le-pow-right, le-of-lt, mul-le-mul, mul-le-mul-left, mul-le-mul-right, mul-zero, zero-mul}
+use native.Mathlib.Numerals.{add-one}
+use lib.Dec.{leb}
+use lib.ListN.{length}
+use borrow.Author.Needs.{needs}
+use borrow.Author.Tests.{le-leb, lt-leb, leb-false}
+use Rattle.theory.proofs.Fold.{bool, below?}
+use Rattle.sheet.specs.Checks.{powerTo, nodesOf, sizeOk}
+
+pub product-small : {r m w x : ℕ} → r ≤ m → w ≡ x → x < 256 → r * w ≤ m * 256
+product-small h e l = mul-le-mul h (omega arith)
+
+module _ (b : ℕ) where
+  pub power-first : 1 ≡ b ^ 0
+  power-first = sym (pow-zero b)
+
+  pub power-again : (i r w : ℕ) → r ≡ b ^ i → w ≡ b → r * w ≡ b ^ (i + 1)
+  power-again i r w e f = rw (add-one i, pow-suc b i, e, f)
+
+  power-cut : (e : ℕ) → 65536 < b ^ e → 65536 ≡ powerTo b e
+  unfolding powerTo
+  power-cut e h = rw (lt-leb (b ^ e) 65536 h)
+
+  base-some : (r w : ℕ) → w ≡ b → 65536 < r * w → 0 < b
+  base-some r w f h =
+      ⊎-elim
+      (λ (l : 0 < b). l)
+      (λ (z : b ≤ 0). let none : w ≡ 0 = omega arith in absurd (omega (arith, rw (none, mul-zero r) at h)))
+      (below? 0 b)
+
+  -- once the product is too large, so is the power
+  pub power-over : (e i r w : ℕ) → i < e → r ≡ b ^ i → w ≡ b → 65536 < r * w → 65536 ≡ powerTo b e
+  power-over e i r w l q f h =
+      let next = rw (power-again i r w q f, add-one i) at h in
+      let more : b ^ suc i ≤ b ^ e = pow-le-pow-right (base-some r w f h) (omega arith) in
+      power-cut e (omega arith)
+
+  pub power-is : (e i r : ℕ) → i ≤ e → e ≤ i → r ≡ b ^ i → r ≤ 65536 → r ≡ powerTo b e
+  unfolding powerTo
+  power-is e i r l g q h =
+      let done : i ≡ e = omega arith in
+      let same : r ≡ b ^ e = rw done at q in
+      rw (le-leb (b ^ e) 65536 (rw same at h)) same
+
+pub ruleset powers = (needs, power-first, power-again, power-over, power-is)
+
+-- cutting the power off at 65,536 does not change how the nodes compare with 16,384
+cut-same : (n x : ℕ) → leb (n * cond (leb x 65536) x 65536) 16384 ≡ leb (n * x) 16384
+cut-same n x =
+    ⊎-elim
+    (λ (t : leb x 65536 ≡ true). rw t)
+    (λ (f : leb x 65536 ≡ false).
+    rw f
+    (⊎-elim
+    (λ (l : 0 < n).
+    let big : 1 * 65536 ≤ n * 65536 = mul-le-mul-right 65536 l in
+    let more : n * 65536 ≤ n * x = mul-le-mul-left n (le-of-lt (leb-false x 65536 f)) in
+    lt-leb (n * 65536) 16384 (omega arith) ∙ sym (lt-leb (n * x) 16384 (omega arith)))
+    (λ (z : n ≤ 0). let none : n ≡ 0 = omega arith in rw (none, zero-mul 65536, zero-mul x))
+    (below? 0 n)))
+    (bool (leb x 65536))
+
+pub size-is : (p : List ℕ) (a d v w : ℕ) → v ≡ d → w ≡ powerTo a (v / 2) → leb (length p * w) 16384 ≡ sizeOk p a d
+unfolding sizeOk nodesOf powerTo
+size-is p a d v w e f = rw (f, e) (cut-same (length p) (a ^ (d / 2)))
