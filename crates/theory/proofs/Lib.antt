@@ -8,3 +8,11 @@ pub mod Region
 pub mod Plays
 pub mod Infinite
 pub mod Pending
+pub mod Turns
+pub mod Keeping
+pub mod Tables
+pub mod Ours
+pub mod Steering
+pub mod Waiting
+pub mod Exact
+pub mod Cases

@@ -1,16 +1,15 @@
 -- The pending word of a strategy at a history, and the step of the arena at the node reached: the one place with the arithmetic
 -- of the delay's parity. Assumes nothing.
-use Prim.Native.Nat.{ℕ, zero, suc, _+_, _-_, _*_, _/_, _%_, _^_, _≤_, _<_}
+use Prim.Native.Nat.{ℕ, suc, _+_, _-_, _*_, _/_, _%_, _^_, _≤_, _<_}
 use mathlib.Core.Path.{_≡_, refl, sym, _∙_, ap, ap₂}
-use mathlib.Core.Bool.{Bool, true, false, not, cond}
+use mathlib.Core.Bool.{true, false}
 use mathlib.Core.Logic.{⊎-elim}
-use mathlib.Core.List.{List, map}
+use mathlib.Core.List.{map}
 use native.Mathlib.Omega.{arith}
-use lib.Dec.{eqb, ltb}
 use lib.Arith.{digits-div, digits-mod, digits-lt}
 use borrow.Author.Tests.{eqb-true, eqb-false, lt-ltb, le-ltb}
 use Rattle.theory.specs.Words.{encode, digit}
-use Rattle.theory.specs.Game.{Game, Target}
+use Rattle.theory.specs.Game.{Game}
 use Rattle.theory.specs.Play.{Play, origin, act, move, last, lastFrom, turns, back}
 use Rattle.theory.specs.Strategy.{Strategy, initialLength, actionOf, choice}
 use Rattle.theory.specs.Delay.{odd, words, onRight, movedTo, playedTo, outcomes, step, arena}
@@ -102,6 +101,11 @@ module _ {A : ℕ} (d : ℕ) (σ : Strategy A d) where
   joined : (π : Play) → d ≤ 2 * (turns π + d / 2) → word d σ π * A + σ .given π ≡ encode A (pending d σ π) (suc (d / 2))
   unfolding word
   joined π l = rw (encode-suc A (pending d σ π) (d / 2), given-pending π l)
+
+  pub rest-joined : (π : Play) → d ≤ 2 * (turns π + d / 2) → rest π ≡ (word d σ π * A + σ .given π) % A ^ (d / 2)
+  unfolding rest
+  rest-joined π l =
+      sym (younger A (pending d σ π) (d / 2) (λ i h. pending-lt π i)) ∙ ap (λ x. x % A ^ (d / 2)) (sym (joined π l))
 
   -- where h is played: even delay, at the history's own position; odd delay, after the environment's next move
   pub even-choice : (π : Play) → d % 2 ≡ 0 → choice d σ π ≡ pending d σ π 0
@@ -216,3 +220,16 @@ module _ (G : Game) (d : ℕ) (σ : Strategy (G .actions) d) where
       step-joined π (omega arith)
       ∙ ap (λ b. outcomes b G (words G d) (last G π) (encode (G .actions) (pending d σ π) (suc (d / 2)))) e
       ∙ ap₂ (λ h w. map (movedTo G (words G d) h w) (G .moves (last G π))) (joined-oldest π) (joined-rest π)
+
+  -- the first histories of the right side
+  pub even-first : odd d ≡ false → node G d σ origin ≡ G .start * words G d + σ .initial
+  unfolding node lastFrom
+  even-first e = ap (λ w. G .start * words G d + w) (even-initial d σ (even-delay d e))
+
+  pub odd-first : (c q : ℕ) → odd d ≡ true → node G d σ (act origin c q) ≡ q * words G d + σ .initial % words G d
+  unfolding node lastFrom words
+  odd-first c q e = ap (λ w. q * G .actions ^ (d / 2) + w) (sym (odd-initial-rest d σ c q (odd-delay d e)))
+
+  pub odd-played : odd d ≡ true → σ .initial / words G d ≡ choice d σ origin
+  unfolding words
+  odd-played e = odd-initial-first d σ (odd-delay d e)

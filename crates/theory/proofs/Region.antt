@@ -1,20 +1,20 @@
 -- The winning region of an arena: the nodes that never fall are the largest winning set, and the masks allow exactly the actions
 -- that keep every outcome in it. Assumes nothing.
-use Prim.Native.Nat.{ℕ, zero, suc, _≤_, _<_}
+use Prim.Native.Nat.{ℕ, zero, suc, _^_, _≤_, _<_}
 use mathlib.Core.Path.{_≡_, refl, sym, _∙_, ap}
-use mathlib.Core.Bool.{Bool, true, false, not, cond}
+use mathlib.Core.Bool.{Bool, true, false, not}
 use mathlib.Core.Logic.{⊎-elim}
 use mathlib.Core.List.{List, List·Memᴰ}
-use native.Mathlib.Omega.{arith}
+use lib.Pow.{pow-pos}
 use lib.ListN.{length, getD}
 use borrow.Author.Tests.{not-true, not-false}
-use Rattle.theory.specs.Fold.{both, allBelow, firstNot, tabulate}
+use Rattle.theory.specs.Fold.{allBelow, firstNot}
 use Rattle.theory.specs.Game.{Target, to}
 use Rattle.theory.specs.Rounds.{Arena, spoiltBy, fell, falls, ranksAfter, finalRanks, kept, maskBelow, maskAt, masksBy, masks}
 use Rattle.theory.specs.Table.{bit}
 use Rattle.theory.proofs.Fold.{bool, not-both, both-true, both-left, both-right, all-fails, below?, first, length-tabulate, getD-tabulate, getD-tabulate-out}
 use Rattle.theory.proofs.Rounds.{unspoilt, unspoilt-outcome, fell-false, rank-zero, stands, stood-before, stood-falls, final-quiet}
-use Rattle.theory.proofs.Masks.{mask-bit, mask-high, mask-some, zero-bit}
+use Rattle.theory.proofs.Masks.{mask-bit, mask-high, mask-some, mask-lt, zero-bit}
 
 module _ (E : Arena) where
   pub kept-right : (ranks : List ℕ) (k : ℕ) → kept E ranks k ≡ true → E .right k ≡ true
@@ -122,6 +122,18 @@ module _ (E : Arena) where
   mask-lost : (k : ℕ) → k < E .nodes → kept E (finalRanks E) k ≡ false → getD (masks E) k 0 ≡ 0
   unfolding maskAt
   mask-lost k h e = mask-is k h ∙ rw e
+
+  -- a mask has no bit at the number of actions or above
+  pub mask-bound : (k : ℕ) → getD (masks E) k 0 < 2 ^ E .actions
+  mask-bound k =
+      ⊎-elim
+      (λ (h : k < E .nodes).
+      ⊎-elim
+      (λ (e : kept E (finalRanks E) k ≡ true). rw (mask-kept k h e) (mask-lt (unspoiltAt k) (E .actions)))
+      (λ (e : kept E (finalRanks E) k ≡ false). rw (mask-lost k h e) (pow-pos (E .actions)))
+      (bool (kept E (finalRanks E) k)))
+      (λ (h : E .nodes ≤ k). rw (mask-out k h) (pow-pos (E .actions)))
+      (below? k (E .nodes))
 
   -- what the masks allow: an action of a node of the region, none of whose outcomes is forbidden, passes an unsafe position or falls
   pub record Allowed (k c : ℕ) : Type 0 where

@@ -2,18 +2,17 @@
 -- ever falls. Assumes nothing.
 use Prim.Native.Nat.{ℕ, zero, suc, _+_, _≤_, _<_}
 use mathlib.Core.Path.{_≡_, refl, sym, _∙_, ap}
-use mathlib.Core.Bool.{Bool, true, false, not, cond}
+use mathlib.Core.Bool.{Bool, true, false, not}
 use mathlib.Core.Logic.{_↔_, _⊎_, inl, inr, ⊎-elim}
 use mathlib.Core.List.{List, List·Memᴰ}
 use native.Mathlib.Omega.{arith}
-use lib.Dec.{eqb}
 use lib.ListN.{length, getD}
 use lib.Seq.{ext-getD}
-use borrow.Author.Tests.{eqb-true, eqb-false, eq-eqb, ne-eqb, not-true, not-false}
-use Rattle.theory.specs.Fold.{both, allBelow, anyOf, firstNot, tabulate}
+use borrow.Author.Tests.{eq-eqb, ne-eqb, not-true}
+use Rattle.theory.specs.Fold.{both, tabulate}
 use Rattle.theory.specs.Game.{Target, absent, to}
-use Rattle.theory.specs.Rounds.{Arena, bad, spoiltBy, fell, falls, rankIn, ranksAfter, finalRanks, kept}
-use Rattle.theory.proofs.Fold.{bool, not-both, both-true, both-left, both-right, both-false, all-at, all-below, all-fails, all-same, below?, any-of-holds, any-of-none, any-of-fails, length-tabulate, getD-tabulate, getD-tabulate-out, tabulate-same, count, count-le, count-less}
+use Rattle.theory.specs.Rounds.{Arena, bad, spoiltBy, fell, falls, rankIn, ranksAfter, finalRanks}
+use Rattle.theory.proofs.Fold.{bool, not-both, both-true, both-left, both-right, below?, any-of-none, any-of-fails, length-tabulate, getD-tabulate, getD-tabulate-out, tabulate-same, count, count-le, count-less}
 
 -- an action is unspoilt exactly if every outcome is a node that has not fallen
 

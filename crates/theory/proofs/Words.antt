@@ -1,11 +1,9 @@
 -- Laws of words (specs/Words.antt), for every number A of actions and every length. Assumes nothing.
 use Prim.Native.Nat.{ℕ, zero, suc, _+_, _*_, _/_, _%_, _^_, _≤_, _<_}
 use mathlib.Core.Path.{_≡_, refl, sym, _∙_, ap}
-use mathlib.Core.Bool.{Bool, true, false, cond}
 use mathlib.Core.Logic.{⊎-elim}
 use native.Mathlib.Omega.{arith}
-use native.Mathlib.Nat.{pow-suc, pow-zero, zero-mul, mul-le-mul-right, mod-lt, div-add-mod', div-lt-iff-lt-mul, mul-zero}
-use lib.Dec.{ltb}
+use native.Mathlib.Nat.{pow-suc, pow-zero, zero-mul, mod-lt, div-add-mod', div-lt-iff-lt-mul}
 use lib.Arith.{digits-lt, digits-div, digits-mod}
 use borrow.Author.Tests.{lt-ltb, le-ltb}
 use Rattle.theory.specs.Words.{encode, digit}

@@ -1,1 +1,127 @@
--- placeholder
+-- Document 01's starred solver cases ("Yards to try") and cases of our own that catch what those leave, in one table. Games are written
+-- as P, C and U bodies. Assumes nothing.
+use Prim.Native.Nat.{ℕ, _%_}
+use mathlib.Core.Bool.{cond}
+use mathlib.Core.List.{List, [], _∷_, _++_}
+use lib.Dec.{eqb, ltb}
+use lib.ListN.{length, getD}
+use Rattle.theory.specs.Fold.{both}
+use Rattle.theory.specs.Game.{Target, absent, to, Game}
+use Rattle.theory.specs.Rounds.{finalRanks, masks}
+use Rattle.theory.specs.Delay.{arena, flags, Verdict, wins, losing, answer}
+
+-- "from, command, to"
+unfoldable pub targetFrom : List ℕ → ℕ → ℕ → Target
+targetFrom [] p c = absent
+targetFrom (f ∷ []) p c = absent
+targetFrom (f ∷ x ∷ []) p c = absent
+targetFrom (f ∷ x ∷ t ∷ lines) p c = cond (both (eqb f p) (eqb x c)) (to t) (targetFrom lines p c)
+
+-- "from, to"
+unfoldable pub movesFrom : List ℕ → ℕ → List ℕ
+movesFrom [] p = []
+movesFrom (f ∷ []) p = []
+movesFrom (f ∷ t ∷ lines) p = cond (eqb f p) (t ∷ movesFrom lines p) (movesFrom lines p)
+
+-- a game that starts at 0: A and the bodies
+unfoldable pub gameFrom : ℕ → List ℕ → List ℕ → List ℕ → Game
+gameFrom actions p c u =
+    record {
+      positions = length p;
+      start = 0;
+      actions = actions;
+      controller = λ q. ltb (getD p q 0) 2;
+      safe = λ q. eqb (getD p q 0 % 2) 0;
+      target = targetFrom c;
+      moves = movesFrom u;
+    }
+
+-- winning: the first words' flags and the masks; losing m: the ranks at m
+pub data Result : Type 0 where
+  won : List ℕ → List ℕ → Result
+  lost : ℕ → List ℕ → Result
+
+unfoldable pub resultBy : Game → ℕ → Verdict → Result
+resultBy G d wins = won (flags G d) (masks (arena G d))
+resultBy G d (losing m) = lost m (finalRanks (arena G m))
+
+unfoldable pub resultOf : Game → ℕ → Result
+resultOf G d = resultBy G d (answer G d)
+
+pub record Case : Type 0 where
+  pub game : Game
+  pub delay : ℕ
+  pub result : Result
+
+abbrev pub case : Game → ℕ → Result → Case
+case G d r = record { game = G; delay = d; result = r }
+
+-- the guess yard
+unfoldable pub guess : Game
+guess = gameFrom 2 (0 ∷ 0 ∷ 2 ∷ 3 ∷ []) (0 ∷ 0 ∷ 2 ∷ 0 ∷ 1 ∷ 3 ∷ 1 ∷ 0 ∷ 3 ∷ 1 ∷ 1 ∷ 2 ∷ []) (2 ∷ 0 ∷ 2 ∷ 1 ∷ 3 ∷ 0 ∷ [])
+
+-- the guess yard "with P 1 0 2 3"
+unfoldable pub unsafeGuess : Game
+unsafeGuess = gameFrom 2 (1 ∷ 0 ∷ 2 ∷ 3 ∷ []) (0 ∷ 0 ∷ 2 ∷ 0 ∷ 1 ∷ 3 ∷ 1 ∷ 0 ∷ 3 ∷ 1 ∷ 1 ∷ 2 ∷ []) (2 ∷ 0 ∷ 2 ∷ 1 ∷ 3 ∷ 0 ∷ [])
+
+-- the split gate
+unfoldable pub splitGate : Game
+splitGate = gameFrom 2 (0 ∷ 0 ∷ 2 ∷ []) (0 ∷ 0 ∷ 2 ∷ 1 ∷ 1 ∷ 2 ∷ []) (2 ∷ 0 ∷ 2 ∷ 1 ∷ [])
+
+-- the loop
+unfoldable pub loop : Game
+loop = gameFrom 1 (0 ∷ 2 ∷ []) (0 ∷ 0 ∷ 1 ∷ []) (1 ∷ 0 ∷ [])
+
+-- the sorting hall
+unfoldable pub hall : Game
+hall = gameFrom 2 (0 ∷ 0 ∷ 0 ∷ 0 ∷ 2 ∷ 2 ∷ 2 ∷ []) (0 ∷ 0 ∷ 4 ∷ 0 ∷ 1 ∷ 4 ∷ 1 ∷ 0 ∷ 5 ∷ 1 ∷ 1 ∷ 5 ∷ 2 ∷ 0 ∷ 6 ∷ 3 ∷ 1 ∷ 6 ∷ []) (4 ∷ 2 ∷ 5 ∷ 3 ∷ 6 ∷ 0 ∷ 6 ∷ 1 ∷ [])
+
+-- of our own: an unsafe own position is passed at odd delays; of two or four first words one is good
+unfoldable pub passing : Game
+passing = gameFrom 2 (0 ∷ 1 ∷ 2 ∷ 2 ∷ []) (0 ∷ 0 ∷ 2 ∷ 0 ∷ 1 ∷ 3 ∷ 1 ∷ 1 ∷ 2 ∷ []) (2 ∷ 0 ∷ 3 ∷ 1 ∷ [])
+
+-- of our own: at delay 2 the good action is permitted where it is played and not where it is chosen
+unfoldable pub chosen : Game
+chosen = gameFrom 2 (0 ∷ 0 ∷ 2 ∷ 2 ∷ 3 ∷ []) (0 ∷ 0 ∷ 2 ∷ 0 ∷ 1 ∷ 3 ∷ 1 ∷ 0 ∷ 4 ∷ []) (2 ∷ 1 ∷ 3 ∷ 0 ∷ 4 ∷ 0 ∷ [])
+
+-- of our own: four rounds without an unsafe position, ranks against the order of the nodes
+unfoldable pub slow : Game
+slow = gameFrom 2 (0 ∷ 0 ∷ 0 ∷ 2 ∷ 2 ∷ []) (0 ∷ 1 ∷ 3 ∷ 1 ∷ 0 ∷ 4 ∷ 2 ∷ 0 ∷ 4 ∷ 2 ∷ 1 ∷ 4 ∷ []) (3 ∷ 1 ∷ 4 ∷ 0 ∷ 4 ∷ 2 ∷ [])
+
+-- of our own: a node falls by one that falls in the round before and has a lower number
+unfoldable pub struck : Game
+struck = gameFrom 2 (0 ∷ 0 ∷ 2 ∷ 3 ∷ []) (0 ∷ 1 ∷ 3 ∷ 1 ∷ 0 ∷ 2 ∷ 1 ∷ 1 ∷ 2 ∷ []) (2 ∷ 0 ∷ 2 ∷ 1 ∷ 3 ∷ 1 ∷ [])
+
+-- of our own: the same at delay 1, by an unsafe own position
+unfoldable pub turned : Game
+turned = gameFrom 2 (0 ∷ 0 ∷ 1 ∷ 2 ∷ 2 ∷ []) (0 ∷ 0 ∷ 4 ∷ 1 ∷ 0 ∷ 3 ∷ 1 ∷ 1 ∷ 4 ∷ 2 ∷ 0 ∷ 3 ∷ []) (3 ∷ 2 ∷ 4 ∷ 0 ∷ 4 ∷ 1 ∷ [])
+
+-- every starred case
+unfoldable pub starred : List Case
+starred =
+    (case guess 0 (won (1 ∷ []) (1 ∷ 2 ∷ 0 ∷ 0 ∷ [])))
+    ∷ (case guess 2 (lost 1 (0 ∷ 0 ∷ 2 ∷ 1 ∷ [])))
+    ∷ (case unsafeGuess 1 (lost 0 (1 ∷ 2 ∷ 0 ∷ 0 ∷ [])))
+    ∷ (case splitGate 1 (lost 1 (0 ∷ 0 ∷ 2 ∷ [])))
+    ∷ (case loop 6 (won (1 ∷ []) (1 ∷ 0 ∷ [])))
+    ∷ (case loop 5 (won (1 ∷ []) (0 ∷ 1 ∷ [])))
+    ∷ (case hall 2 (won (1 ∷ 1 ∷ []) (1 ∷ 1 ∷ 2 ∷ 2 ∷ 3 ∷ 0 ∷ 0 ∷ 3 ∷ 0 ∷ 0 ∷ 0 ∷ 0 ∷ 0 ∷ 0 ∷ [])))
+    ∷ (case hall 3 (lost 3 (0 ∷ 0 ∷ 0 ∷ 0 ∷ 0 ∷ 0 ∷ 0 ∷ 0 ∷ 4 ∷ 2 ∷ 2 ∷ 4 ∷ 3 ∷ 3 ∷ [])))
+    ∷ []
+
+-- cases of our own. Each names what it catches beside what the starred ones catch: `passing` at 3 a safety test left out on the own position
+-- passed and first words of the wrong length, and beside 2 and 4 a delay taken for its neighbour; `chosen` an action tested where it is
+-- chosen; `slow`, `struck` and `turned` nodes struck only once and ranks that follow the order of visiting
+unfoldable pub ourCases : List Case
+ourCases =
+    (case passing 2 (won (1 ∷ 0 ∷ []) (1 ∷ 0 ∷ 0 ∷ 0 ∷ 0 ∷ 0 ∷ 0 ∷ 0 ∷ [])))
+    ∷ (case passing 3 (won (1 ∷ 0 ∷ 0 ∷ 0 ∷ []) (0 ∷ 0 ∷ 0 ∷ 0 ∷ 1 ∷ 0 ∷ 0 ∷ 0 ∷ [])))
+    ∷ (case passing 4 (won (1 ∷ 0 ∷ 0 ∷ 0 ∷ []) (1 ∷ 0 ∷ 0 ∷ 0 ∷ 0 ∷ 0 ∷ 0 ∷ 0 ∷ 0 ∷ 0 ∷ 0 ∷ 0 ∷ 0 ∷ 0 ∷ 0 ∷ 0 ∷ [])))
+    ∷ (case chosen 2 (won (0 ∷ 1 ∷ []) (0 ∷ 2 ∷ 0 ∷ 0 ∷ 0 ∷ 0 ∷ 0 ∷ 0 ∷ 0 ∷ 0 ∷ [])))
+    ∷ (case slow 3 (lost 3 (0 ∷ 0 ∷ 0 ∷ 0 ∷ 0 ∷ 0 ∷ 4 ∷ 2 ∷ 2 ∷ 3 ∷ [])))
+    ∷ (case struck 0 (lost 0 (2 ∷ 3 ∷ 0 ∷ 0 ∷ [])))
+    ∷ (case turned 1 (lost 1 (0 ∷ 0 ∷ 0 ∷ 2 ∷ 3 ∷ [])))
+    ∷ []
+
+abbrev pub cases : List Case
+cases = starred ++ ourCases

@@ -2,7 +2,7 @@
 -- paper's words. Assumes nothing.
 use Prim.Native.Nat.{ℕ, zero, suc, _*_}
 use mathlib.Core.Path.{_≡_}
-use mathlib.Core.Bool.{Bool, true}
+use mathlib.Core.Bool.{true}
 use mathlib.Core.List.{List·Memᴰ}
 use Rattle.theory.specs.Game.{Game, to}
 use Rattle.theory.specs.Play.{Play, origin, act, move, Rule}

@@ -1,7 +1,7 @@
 -- The rounds of document 01 ("Pairs, rounds and the table") over an abstract arena, without parity, games or words. What has
 -- fallen is a parameter of `spoiltBy`, so that judging and notices use the same definition. Assumes nothing.
 use Prim.Native.Nat.{ℕ, zero, suc, _+_, _^_}
-use mathlib.Core.Bool.{Bool, true, false, not, cond}
+use mathlib.Core.Bool.{Bool, true, not, cond}
 use mathlib.Core.List.{List}
 use lib.Dec.{eqb}
 use lib.ListN.{getD}

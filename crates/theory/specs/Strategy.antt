@@ -2,7 +2,7 @@
 -- time and needs no game, only the number A of actions. Assumes nothing.
 use Prim.Native.Nat.{ℕ, _+_, _*_, _/_, _^_, _<_}
 use mathlib.Core.Path.{_≡_}
-use mathlib.Core.Bool.{Bool, true, false, cond}
+use mathlib.Core.Bool.{true, cond}
 use mathlib.Core.List.{List·Memᴰ}
 use lib.Dec.{ltb}
 use Rattle.theory.specs.Words.{digit}

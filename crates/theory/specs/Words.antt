@@ -1,7 +1,7 @@
 -- Words in base A ("the word read in base A, oldest command leading"). A word of n actions is a number below A ^ n; joining an
 -- action c to the word w gives w * A + c. Assumes nothing.
 use Prim.Native.Nat.{ℕ, zero, suc, _+_, _*_, _/_, _%_}
-use mathlib.Core.Bool.{Bool, true, false, cond}
+use mathlib.Core.Bool.{cond}
 use lib.Dec.{ltb}
 
 -- the word of the n actions g 0, g 1, .., the oldest first

@@ -1,0 +1,179 @@
+-- Tables (specs/Table.antt): any choice out of a judged table wins; our own table is judged; every judged table lies inside ours; and a
+-- strategy wins exactly if it keeps to ours. Assumes nothing.
+use Prim.Native.Nat.{ℕ, _+_, _*_, _/_, _%_, _<_}
+use mathlib.Core.Path.{_≡_, refl, _∙_, ap}
+use mathlib.Core.Bool.{Bool, true, false, not}
+use mathlib.Core.Logic.{⊎-elim}
+use mathlib.Core.List.{List·Memᴰ, Memᴰ·of-map}
+use native.Mathlib.Omega.{arith}
+use lib.Arith.{digits-lt, digits-div}
+use lib.ListN.{getD}
+use native.Mathlib.Nat.{mod-lt, one-le-pow}
+use borrow.Author.Tests.{eqb-false, ne-eqb, not-true}
+use Rattle.theory.specs.Game.{Game, Target, absent, to, Legal}
+use Rattle.theory.specs.Play.{Play}
+use Rattle.theory.specs.Strategy.{initialLength, Strategy, Wins}
+use Rattle.theory.specs.Rounds.{masks}
+use Rattle.theory.specs.Delay.{odd, words, initialWords, onRight, movedTo, playedTo, outcomes, step, arena, goodFrom}
+use Rattle.theory.specs.Table.{Table, flagged, lacks, has, bit, allows, Judged, node, Obeys}
+use Rattle.theory.proofs.Fold.{bool, not-both}
+use Rattle.theory.proofs.Masks.{zero-bit}
+use Rattle.theory.proofs.Rounds.{unspoilt, unspoilt-outcome}
+use Rattle.theory.proofs.Turns.{right-even, right-odd, to-injective, played-node, played-forbidden, played-passed, moved-passed}
+use Rattle.theory.proofs.Pending.{even-delay}
+use Rattle.theory.proofs.Keeping.{Starts, good-starts, starts-good, Seen, Keeping, seen-node, keeping-wins, keeping-node}
+
+-- a table's tests
+
+module _ (T : Table) where
+  pub has-mask : (k : ℕ) → has T k ≡ true → getD (T .masks) k 0 ≡ 0 → ⊥
+  unfolding has lacks
+  has-mask k h z = eqb-false (getD (T .masks) k 0) 0 (not-true _ h) z
+
+  pub mask-has : (k : ℕ) → (getD (T .masks) k 0 ≡ 0 → ⊥) → has T k ≡ true
+  unfolding has lacks
+  mask-has k n = rw (ne-eqb (getD (T .masks) k 0) 0 n)
+
+  pub lacks-has : (k : ℕ) → lacks T k ≡ false → has T k ≡ true
+  unfolding has
+  lacks-has k e = rw e
+
+  pub has-lacks : (k : ℕ) → has T k ≡ true → lacks T k ≡ false
+  unfolding has
+  has-lacks k e = not-true _ e
+
+  -- a mask with a bit is not 0
+  pub allows-has : (k c : ℕ) → allows T k c ≡ true → has T k ≡ true
+  unfolding allows
+  allows-has k c e = mask-has k (λ z. not-both e (ap (λ m. bit m c) z ∙ zero-bit c))
+
+-- a legal game has an action
+pub legal-actions : (G : Game) → Legal G → 0 < G .actions
+legal-actions G legal =
+    ⊎-elim
+    (λ t. let l = legal .targets _ _ _ (t .2) .action in omega arith)
+    (λ m. absurd (not-both (legal .start-controller) (legal .moves _ _ (m .1) .from-environment)))
+    (legal .live (G .start) (legal .start-position))
+
+module _ (G : Game) (legal : Legal G) (d : ℕ) where
+  pub words-some : 0 < words G d
+  unfolding words
+  words-some = one-le-pow (d / 2) (G .actions) (legal-actions G legal)
+
+  pub node-number : (p w : ℕ) → p < G .positions → w < words G d → p * words G d + w < arena G d .nodes
+  unfolding arena
+  node-number p w h l = digits-lt h l
+
+  node-own : (p w : ℕ) → w < words G d → arena G d .right (p * words G d + w) ≡ onRight (odd d) G p
+  unfolding arena
+  node-own p w l = ap (onRight (odd d) G) (digits-div p l)
+
+  -- a step reaches only nodes, of the right side
+
+  even-reach : (p j k′ : ℕ) → List·Memᴰ (to k′) (outcomes false G (words G d) p j)
+      → (r : ℕ) × (r < G .positions) × (G .controller r ≡ true) × (k′ ≡ r * words G d + j % words G d)
+  unfolding outcomes
+  even-reach p j k′ i = at (G .target p (j / words G d)) i
+    where
+      moved : (q : ℕ) → (r : ℕ) × List·Memᴰ r (G .moves q) × (to k′ ≡ to (r * words G d + j % words G d))
+          → (r : ℕ) × (r < G .positions) × (G .controller r ≡ true) × (k′ ≡ r * words G d + j % words G d)
+      moved q (r, m, e) = let l = legal .moves q r m in (r, l .position, l .controller, to-injective e)
+
+      at : (t : Target) → List·Memᴰ (to k′) (playedTo G (words G d) (j % words G d) t)
+          → (r : ℕ) × (r < G .positions) × (G .controller r ≡ true) × (k′ ≡ r * words G d + j % words G d)
+      at absent i = absurd (played-forbidden G (words G d) (j % words G d) i)
+      at (to q) i =
+          ⊎-elim
+          (λ (s : G .safe q ≡ true). moved q (played-node G (words G d) (j % words G d) q s (to k′) i))
+          (λ (s : G .safe q ≡ false). absurd (played-passed G (words G d) (j % words G d) q s i))
+          (bool (G .safe q))
+
+  odd-reach : (p j k′ : ℕ) → List·Memᴰ (to k′) (outcomes true G (words G d) p j)
+      → (q : ℕ) × (q < G .positions) × (G .controller q ≡ false) × (k′ ≡ q * words G d + j % words G d)
+  unfolding outcomes
+  odd-reach p j k′ i =
+      let x = Memᴰ·of-map (movedTo G (words G d) (j / words G d) (j % words G d)) (G .moves p) i in
+      let y = moved-passed G (words G d) (j % words G d) (j / words G d) (x .0) k′ (x .2) in
+      let l = legal .targets (x .0) (j / words G d) (y .0) (y .2) in
+      (y .0, l .position, l .environment, y .3)
+
+  pub step-legal : (k c k′ : ℕ) → List·Memᴰ (to k′) (arena G d .step k c) → (k′ < arena G d .nodes) × (arena G d .right k′ ≡ true)
+  unfolding arena step
+  step-legal k c k′ i = reach (odd d) refl i
+    where
+      found : (p w : ℕ) → p < G .positions → onRight (odd d) G p ≡ true → w < words G d → k′ ≡ p * words G d + w
+          → (k′ < G .positions * words G d) × (onRight (odd d) G (k′ / words G d) ≡ true)
+      found p w h r l e = rw e (node-number p w h l, node-own p w l ∙ r)
+
+      reach : (b : Bool) → odd d ≡ b → List·Memᴰ (to k′) (outcomes b G (words G d) (k / words G d) ((k % words G d) * G .actions + c))
+          → (k′ < G .positions * words G d) × (onRight (odd d) G (k′ / words G d) ≡ true)
+      reach false e i =
+          let (r, h, o, q) = even-reach _ _ k′ i in
+          found r _ h (right-even G (odd d) r e ∙ o) (mod-lt _ words-some) q
+      reach true e i =
+          let (p, h, y, q) = odd-reach _ _ k′ i in
+          found p _ h (right-odd G (odd d) p e ∙ ap not y) (mod-lt _ words-some) q
+
+  pub even-word : (v : ℕ) → odd d ≡ false → v < initialWords G d → v < words G d
+  unfolding initialWords words
+  even-word v e l =
+      let m = even-delay d e in
+      let q : initialLength d ≡ d / 2 = omega arith in
+      rw q at l
+
+  -- more kept nodes keep good words good
+  pub good-more : (keeps keeps′ : ℕ → Bool) (v : ℕ) → v < initialWords G d → ((k : ℕ) → k < arena G d .nodes → keeps k ≡ true → keeps′ k ≡ true)
+      → goodFrom G d keeps v ≡ true → goodFrom G d keeps′ v ≡ true
+  unfolding goodFrom
+  good-more keeps keeps′ v l f e =
+      starts-good G (words G d) keeps′ v (odd d) (more (odd d) refl (good-starts G (words G d) keeps v (odd d) e))
+    where
+      more : (b : Bool) → odd d ≡ b → Starts b G (words G d) (λ k. keeps k ≡ true) v → Starts b G (words G d) (λ k. keeps′ k ≡ true) v
+      more false e s = f _ (node-number (G .start) v (legal .start-position) (even-word v e l)) s
+      more true e s = (
+        s .0,
+        (
+          s .1 .0,
+          s .1 .1,
+          f _ (node-number (s .1 .0) (v % words G d) (legal .targets _ _ _ (s .1 .1) .position) (mod-lt v words-some)) (s .1 .2),
+        ),
+      )
+
+-- any choice out of a judged table wins
+
+module _ (G : Game) (legal : Legal G) (d : ℕ) (T : Table) (judged : Judged G d T) where
+  -- an allowed action's outcomes have masks
+  pub judged-outcome : (k c : ℕ) → k < arena G d .nodes → c < G .actions → allows T k c ≡ true → (o : Target)
+      → List·Memᴰ o (arena G d .step k c) → (k′ : ℕ) × (o ≡ to k′) × (has T k′ ≡ true)
+  judged-outcome k c h l a o i =
+      let x = unspoilt-outcome (arena G d) (lacks T) k c (judged .unspoilt k c h l a) i in
+      (x .0, x .1, lacks-has T (x .0) (x .2))
+
+  -- the strategy's first word is flagged, and where it reaches a mask it gives an action out of it
+  pub record Picks (σ : Strategy (G .actions) d) : Type 0 where
+    pub first : flagged T (σ .initial) ≡ true
+    pub given : (π : Play) → Seen G legal d σ π → has T (node G d σ π) ≡ true → allows T (node G d σ π) (σ .given π) ≡ true
+
+  module _ (σ : Strategy (G .actions) d) (picks : Picks σ) where
+    keeping : Keeping G legal d σ (λ k. has T k ≡ true)
+    keeping =
+        record {
+          safe = λ k h r s. judged .safe k h s;
+          inside =
+              λ π s x.
+              judged-outcome (node G d σ π) (σ .given π) (seen-node G legal d σ s) (σ .given-action π) (picks .given π s x);
+        }
+
+    starts : Starts (odd d) G (words G d) (λ k. has T k ≡ true) (σ .initial)
+    unfolding initialWords goodFrom
+    starts = good-starts G (words G d) (has T) (σ .initial) (odd d) (judged .words (σ .initial) (σ .initial-word) (picks .first))
+
+    pub picks-wins : Wins G d σ
+    picks-wins = keeping-wins G legal d σ (λ k. has T k ≡ true) keeping starts
+
+    pub picks-has : {π : Play} → Seen G legal d σ π → has T (node G d σ π) ≡ true
+    picks-has s = keeping-node G legal d σ (λ k. has T k ≡ true) keeping starts s
+
+  pub obeys-wins : (σ : Strategy (G .actions) d) → Obeys G d σ T → Wins G d σ
+  obeys-wins σ o =
+      picks-wins σ (record { first = o .first; given = λ π s x. o .given π (s .consistent) (s .right) })
