@@ -1,5 +1,5 @@
 -- Sheets with the answers that document 01 gives them, and what the guess yard means: the table that proofs/Cases.antt computes.
--- Not here, for their size: a sheet of 256 positions, and one of 4,097 moves; the tests run them. Assumes nothing.
+-- Not here, for their size: sheets of 4,096 and 4,097 moves. Assumes nothing.
 use Prim.Native.Nat.{ℕ, zero, suc, _+_, _/_, _%_}
 use mathlib.Core.List.{List, [], _∷_, _++_}
 use lib.ListN.{length, take, drop, set, replicate}
@@ -123,7 +123,7 @@ cases =
     -- 6: an own position and one of the yard without a move
     ∷ wrong 6 (guessC (0 ∷ 0 ∷ 2 ∷ []))
     ∷ wrong 6 (guessU (2 ∷ 0 ∷ []))
-    -- 7: A 8, lag 6: 32 positions pass and 33 don't
+    -- 7: A 8, lag 6: 32 positions pass and 33 don't; 256 positions pass at lag 4 and don't at lag 6
     ∷ right (star 31 6) (layout 0 8 6 32 93 2)
     ∷ wrong 7 (star 32 6)
     ∷ right (star 255 4) (layout 0 8 4 256 765 2)

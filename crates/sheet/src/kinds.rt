@@ -9,6 +9,7 @@ pub enum Kind {
     Invalid,
 }
 
+// Side and safety by a P byte; there is none above 3.
 pub fn kind_of(b: u8) -> Kind
     ensures { λ r. ⌜ r ≡ kindOf b ⌝ }
 {

@@ -12,7 +12,9 @@ pub const MOST_NODES: usize = 16384;
 // Where powers are cut off, far above the most nodes.
 pub const MOST_POWER: usize = 65536;
 
-// The targets of a row of the grid, one for each action that there can be, and the mark of an absent one.
+// The grid of targets: a row for each position that there can be, a target for each action, and the mark of an absent one.
+pub const ROWS: usize = 256;
+
 pub const ROW: usize = 8;
 
 pub const ABSENT: u16 = 256;

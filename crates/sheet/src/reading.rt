@@ -34,6 +34,7 @@ pub struct Layout {
     pub moves: Place,
 }
 
+// The answer to every list of bytes.
 pub enum Reading {
     Accepted(Layout),
     Refused(Refusal),
@@ -60,6 +61,7 @@ fn header_ok(p: &[u8], h: &[u8]) -> bool
     controller_at(p, wide(h[0]))
 }
 
+// The layout that the contents and the S body give.
 fn layout_at(s: &[u8]) -> Layout
     ensures { λ r. ⌜ r ≡ layoutOf (now (s .entry)) ⌝ }
 {
@@ -102,6 +104,7 @@ fn check_lines(l: Layout, p: &[u8], c: &[u8], u: &[u8]) -> Reading
     Reading::Accepted(l)
 }
 
+// Reading a game sheet: the seven checks in the order written.
 pub fn read(sheet: &[u8]) -> Reading
     ensures { λ r. ⌜ meaning r ≡ readAnswer (now (sheet .entry)) ⌝ }
 {

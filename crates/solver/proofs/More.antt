@@ -26,6 +26,15 @@ pub either-second : (a b : Bool) → a ≡ false → either a b ≡ b
 unfolding either
 either-second a b e = rw e
 
+pub either-first : (a b : Bool) → b ≡ false → either a b ≡ a
+unfolding either
+either-first true b e = refl
+either-first false b e = e
+
+pub not-not : (b : Bool) → not (not b) ≡ b
+not-not true = refl
+not-not false = refl
+
 -- a shorter range that fails fails the longer one
 pub all-short : (p : ℕ → Bool) {c n : ℕ} → c ≤ n → allBelow p c ≡ false → allBelow p n ≡ false
 all-short p {c} {n} l e =

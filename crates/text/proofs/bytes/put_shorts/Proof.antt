@@ -1,0 +1,50 @@
+-- `put_shorts` meets its contract: what is left to write at the head of its loop gives the whole. Assumes nothing.
+use borrow.Author.Needs.{needs}
+use Prim.Native.Nat.{_-_}
+use lib.ListN.{length}
+use Rattle.text.proofs.Page.{begins, goes-on, ends, Along}
+use Rattle.text.specs.Numbers.{shortAt, shortsText}
+use Rattle.text.proofs.bytes.put_shorts.Statement.{statement}
+use Rattle.text.proofs.bytes.put_shorts.Tie as tie
+
+abbrev Inv-loop : tie.InvT-loop
+Inv-loop out₀ at numbers to₀ k₀ out to k = Along (shortAt numbers) (length numbers) out₀ at out to k
+
+abbrev μ-loop : tie.MeasureT-loop
+μ-loop out₀ at numbers to₀ k₀ out to k = length numbers - k
+
+loop-holds : tie.Need-loop-holds Inv-loop μ-loop
+loop-holds c = search begins
+
+put-short-at-requires : tie.Need-put-short-at-requires Inv-loop μ-loop
+put-short-at-requires c κs = search needs
+
+add-k : tie.Need-add-k Inv-loop μ-loop
+add-k c = search needs
+
+loop-less : tie.Need-loop-less Inv-loop μ-loop
+loop-less c = search needs
+
+loop-again : tie.Need-loop-again Inv-loop μ-loop
+loop-again c = search goes-on
+
+same-length : tie.Need-same-length Inv-loop μ-loop
+same-length c = search needs
+
+returns : tie.Need-returns Inv-loop μ-loop
+unfolding shortsText
+returns c = search ends
+
+pub put-shorts-spec : {M : Type 1} → statement M
+put-shorts-spec =
+    tie.close
+    (tie.spec
+    Inv-loop
+    μ-loop
+    loop-holds
+    put-short-at-requires
+    add-k
+    loop-less
+    loop-again
+    same-length
+    returns)

@@ -1,0 +1,50 @@
+-- `put_allows` meets its contract: what is left to write at the head of its loop gives the whole. Assumes nothing.
+use Prim.Native.Nat.{_-_}
+use Rattle.text.proofs.Page.{begins, goes-on, ends, Along}
+use lib.ListN.{length}
+use Rattle.text.specs.Lines.{allowAt, allowLines}
+use borrow.Author.Needs.{needs}
+use Rattle.text.proofs.listing.put_allows.Statement.{statement}
+use Rattle.text.proofs.listing.put_allows.Tie as tie
+
+abbrev Inv-loop : tie.InvT-loop
+Inv-loop out₀ at actions count masks to₀ k₀ out to k = Along (allowAt actions count masks) (length masks) out₀ at out to k
+
+abbrev μ-loop : tie.MeasureT-loop
+μ-loop out₀ at actions count masks to₀ k₀ out to k = length masks - k
+
+loop-holds : tie.Need-loop-holds Inv-loop μ-loop
+loop-holds c = search begins
+
+put-allow-at-requires : tie.Need-put-allow-at-requires Inv-loop μ-loop
+put-allow-at-requires c κs = search needs
+
+add-k : tie.Need-add-k Inv-loop μ-loop
+add-k c = search needs
+
+loop-less : tie.Need-loop-less Inv-loop μ-loop
+loop-less c = search needs
+
+loop-again : tie.Need-loop-again Inv-loop μ-loop
+loop-again c = search goes-on
+
+same-length : tie.Need-same-length Inv-loop μ-loop
+same-length c = search needs
+
+returns : tie.Need-returns Inv-loop μ-loop
+unfolding allowLines
+returns c = search ends
+
+pub put-allows-spec : {M : Type 1} → statement M
+put-allows-spec =
+    tie.close
+    (tie.spec
+    Inv-loop
+    μ-loop
+    loop-holds
+    put-allow-at-requires
+    add-k
+    loop-less
+    loop-again
+    same-length
+    returns)

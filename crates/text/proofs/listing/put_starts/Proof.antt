@@ -1,0 +1,50 @@
+-- `put_starts` meets its contract: what is left to write at the head of its loop gives the whole. Assumes nothing.
+use Prim.Native.Nat.{_-_}
+use Rattle.text.proofs.Page.{begins, goes-on, ends, Along}
+use lib.ListN.{length}
+use Rattle.text.specs.Lines.{startAt, startLines}
+use borrow.Author.Needs.{needs}
+use Rattle.text.proofs.listing.put_starts.Statement.{statement}
+use Rattle.text.proofs.listing.put_starts.Tie as tie
+
+abbrev Inv-loop : tie.InvT-loop
+Inv-loop out₀ at actions count flags to₀ k₀ out to k = Along (startAt actions count flags) (length flags) out₀ at out to k
+
+abbrev μ-loop : tie.MeasureT-loop
+μ-loop out₀ at actions count flags to₀ k₀ out to k = length flags - k
+
+loop-holds : tie.Need-loop-holds Inv-loop μ-loop
+loop-holds c = search begins
+
+put-start-at-requires : tie.Need-put-start-at-requires Inv-loop μ-loop
+put-start-at-requires c κs = search needs
+
+add-k : tie.Need-add-k Inv-loop μ-loop
+add-k c = search needs
+
+loop-less : tie.Need-loop-less Inv-loop μ-loop
+loop-less c = search needs
+
+loop-again : tie.Need-loop-again Inv-loop μ-loop
+loop-again c = search goes-on
+
+same-length : tie.Need-same-length Inv-loop μ-loop
+same-length c = search needs
+
+returns : tie.Need-returns Inv-loop μ-loop
+unfolding startLines
+returns c = search ends
+
+pub put-starts-spec : {M : Type 1} → statement M
+put-starts-spec =
+    tie.close
+    (tie.spec
+    Inv-loop
+    μ-loop
+    loop-holds
+    put-start-at-requires
+    add-k
+    loop-less
+    loop-again
+    same-length
+    returns)

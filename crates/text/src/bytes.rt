@@ -1,0 +1,70 @@
+// Bytes, slices of bytes and numbers of two bytes.
+ghost use mathlib.Core.Path.{_≡_};
+ghost use mathlib.Core.List.{_∷_, []};
+ghost use Prim.Native.Nat.{_%_, _<_};
+ghost use lib.ListN.{length};
+ghost use Rattle.text.specs.Page.{page, puts};
+ghost use Rattle.text.specs.Numbers.{bytesOf, shortAt, shortsText};
+
+pub fn put_byte(out: &mut [u8], at: usize, byte: u8) -> usize
+    ensures { λ r. ⌜ page (now (out .exit)) r ≡ puts (page (now (out .entry)) at) (byte ∷ []) ⌝ }
+{
+    if at < out.len() {
+        out[at] = byte;
+        return at + 1;
+    }
+    at
+}
+
+// Copies a slice.
+pub fn put_text(out: &mut [u8], at: usize, text: &[u8]) -> usize
+    ensures { λ r. ⌜ page (now (out .exit)) r ≡ puts (page (now (out .entry)) at) (now (text .entry)) ⌝ }
+{
+    let mut to = at;
+    let mut k: usize = 0;
+    while k < text.len() {
+        to = put_byte(out, to, text[k]);
+        k += 1;
+    }
+    to
+}
+
+fn low_byte(n: usize) -> u8
+    ensures { λ r. ⌜ r ≡ n % 256 ⌝ }
+{
+    (n % 256) as u8
+}
+
+// The lowest two bytes of a number, low byte first.
+pub fn put_bytes2(out: &mut [u8], at: usize, n: usize) -> usize
+    ensures { λ r. ⌜ page (now (out .exit)) r ≡ puts (page (now (out .entry)) at) (bytesOf 2 n) ⌝ }
+{
+    let to = put_byte(out, at, low_byte(n));
+    put_byte(out, to, low_byte(n / 256))
+}
+
+pub(crate) fn wide16(x: u16) -> usize
+    ensures { λ r. ⌜ r ≡ x ⌝ }
+{
+    x as usize
+}
+
+fn put_short_at(out: &mut [u8], at: usize, numbers: &[u16], k: usize) -> usize
+    requires { ⌜ k < length (now numbers) ⌝ }
+    ensures { λ r. ⌜ page (now (out .exit)) r ≡ puts (page (now (out .entry)) at) (shortAt (now (numbers .entry)) k) ⌝ }
+{
+    put_bytes2(out, at, wide16(numbers[k]))
+}
+
+// Every entry of a slice in two bytes, low byte first.
+pub fn put_shorts(out: &mut [u8], at: usize, numbers: &[u16]) -> usize
+    ensures { λ r. ⌜ page (now (out .exit)) r ≡ puts (page (now (out .entry)) at) (shortsText (now (numbers .entry))) ⌝ }
+{
+    let mut to = at;
+    let mut k: usize = 0;
+    while k < numbers.len() {
+        to = put_short_at(out, to, numbers, k);
+        k += 1;
+    }
+    to
+}
