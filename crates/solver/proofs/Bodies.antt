@@ -11,6 +11,7 @@ use borrow.Author.Tests.{lt-ltb, le-ltb, ltb-true, ltb-false, eq-eqb, ne-eqb, eq
 use Rattle.theory.specs.Fold.{both, allBelow, firstNot, tabulate}
 use Rattle.theory.specs.Game.{Target, Game, Legal}
 use Rattle.theory.proofs.Fold.{bool, below?, not-both, both-left, both-right, all-at, all-none, first, first-suc, tabulate-zero, tabulate-suc, getD-tabulate, getD-tabulate-out}
+use Rattle.sheet.specs.Kinds.{controllerAt, safeAt}
 use Rattle.sheet.specs.Reading.{positionsBody, targetsBody, movesBody, startOf, actionCount}
 use Rattle.sheet.specs.Meant.{movesIn, movesOf, gameOf, markOf, rowOf, gridAfter, gridOf, unmark, targetAt, targetIn}
 use Rattle.sheet.proofs.GridLaws.{row-at}
@@ -152,6 +153,18 @@ no-member : (l : List ℕ) → ((x : ℕ) → List·Memᴰ x l → ⊥) → [] �
 no-member [] f = refl
 no-member (x ∷ xs) f = absurd (f x (List·Memᴰ·head refl))
 
+-- a cell of the grid is there, whatever stands for a missing one
+cell-same : (c : List ℕ) (q x : ℕ) → cellAt (gridOf c) q x ≡ targetAt (gridOf c) q x
+unfolding cellAt targetAt gridOf rowOf
+cell-same c q x =
+    ⊎-elim
+    (λ (t : both (ltb q 256) (ltb x 8) ≡ true).
+    let h : x < 8 = ltb-true _ _ (both-right _ _ t) in
+    let f : ℕ → ℕ = λ y. markOf (targetIn c q y (length c / 3)) in
+    rw (t, row-at c (length c / 3) q (ltb-true _ _ (both-left _ _ t)), getD-tabulate f 8 x 0 h, getD-tabulate f 8 x 256 h))
+    (λ (t : both (ltb q 256) (ltb x 8) ≡ false). rw t)
+    (bool (both (ltb q 256) (ltb x 8)))
+
 module _ (s : List ℕ) (r : Read s) where
   moves-read : (q : ℕ) → tosBetween (movesBody s) (getD (firstsOf (movesBody s)) q 0) (getD (firstsOf (movesBody s)) (suc q) 0)
       ≡ movesOf (movesBody s) q
@@ -167,3 +180,26 @@ module _ (s : List ℕ) (r : Read s) where
       ∙ no-member (movesOf (movesBody s) q)
       (λ x m. let p = legal s r .moves q x m .from-position in let f = ranges s r .few-positions in omega arith)))
       (below? q 256)
+
+  cell-read : (q x : ℕ) → cellAt (gridOf (targetsBody s)) q x ≡ gameOf s .target q x
+  cell-read q x = cell-same (targetsBody s) q x ∙ sym (target-read s r q x)
+
+  -- the arrays' game is the sheet's
+  pub bodies-game : bodiesGame (positionsBody s) (targetsBody s) (movesBody s) (startOf s) (actionCount s) ≡ gameOf s
+  unfolding bodiesGame viewOf gameOf
+  bodies-game =
+      ap (λ (t : ℕ → ℕ → Target). with t (λ q. tosBetween (movesBody s) (getD (firstsOf (movesBody s)) q 0) (getD (firstsOf (movesBody s)) (suc q) 0)))
+      (fun-ext (λ q. fun-ext (cell-read q)))
+      ∙ ap (with (gameOf s .target)) (fun-ext moves-read)
+    where
+      with : (ℕ → ℕ → Target) → (ℕ → List ℕ) → Game
+      with t m =
+          record {
+            positions = length (positionsBody s);
+            start = startOf s;
+            actions = actionCount s;
+            controller = controllerAt (positionsBody s);
+            safe = safeAt (positionsBody s);
+            target = t;
+            moves = m;
+          }

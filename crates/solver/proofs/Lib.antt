@@ -9,3 +9,4 @@ pub mod MoveLaws
 pub mod RoundLaws
 pub mod SearchLaws
 pub mod Bodies
+pub mod SolveLaws
