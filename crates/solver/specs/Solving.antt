@@ -61,7 +61,7 @@ meaning (Winning l) = accepted (record { verdict = wins; layout = l })
 meaning (Losing m l) = accepted (record { verdict = losing m; layout = l })
 meaning (Refused n) = refused n
 
-abbrev pub verdictBy : Bool → ℕ → Verdict
+unfoldable pub verdictBy : Bool → ℕ → Verdict
 verdictBy true m = wins
 verdictBy false m = losing m
 

@@ -14,7 +14,7 @@ pub struct Level {
     pub nodes: usize,
 }
 
-pub fn level_at(positions: usize, start: u8, actions: u8, delay: u8) -> Level
+pub(crate) fn level_at(positions: usize, start: u8, actions: u8, delay: u8) -> Level
     requires { ⌜ Room positions actions delay ⌝ }
     ensures { λ r. ⌜ r ≡ levelAt positions start actions delay ⌝ }
 {

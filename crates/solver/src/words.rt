@@ -12,7 +12,7 @@ ghost use Rattle.solver.specs.Strikes.{keptIn, goodIn, firstWords};
 
 const ABSENT: usize = 256;
 
-pub fn kept(p: &[u8], level: Level, ranks: &[u16], k: usize) -> bool
+pub(crate) fn kept(p: &[u8], level: Level, ranks: &[u16], k: usize) -> bool
     requires { ⌜ Sized (length (now p)) level ⌝ }
     ensures { λ r. ⌜ r ≡ keptIn (now (p .entry)) level (now (ranks .entry)) k ⌝ }
 {
@@ -25,7 +25,7 @@ pub fn kept(p: &[u8], level: Level, ranks: &[u16], k: usize) -> bool
     ranks[k] == 0
 }
 
-pub fn first_words(level: Level) -> usize
+pub(crate) fn first_words(level: Level) -> usize
     requires { ⌜ (level .power < 65536) × (level .actions < 256) ⌝ }
     ensures { λ r. ⌜ r ≡ firstWords level ⌝ }
 {
@@ -35,7 +35,7 @@ pub fn first_words(level: Level) -> usize
     level.power
 }
 
-pub fn good(p: &[u8], grid: &[[u16; 8]; 256], level: Level, ranks: &[u16], v: usize) -> bool
+pub(crate) fn good(p: &[u8], grid: &[[u16; 8]; 256], level: Level, ranks: &[u16], v: usize) -> bool
     requires { ⌜ (Sized (length (now p)) level) × (level .start < 65536) × (v < firstWords level) ⌝ }
     ensures { λ r. ⌜ r ≡ goodIn (now (p .entry)) (now (grid .entry)) level (now (ranks .entry)) v ⌝ }
 {
@@ -52,7 +52,7 @@ pub fn good(p: &[u8], grid: &[[u16; 8]; 256], level: Level, ranks: &[u16], v: us
     kept(p, level, ranks, reached * level.power + v % level.power)
 }
 
-pub fn some_good(p: &[u8], grid: &[[u16; 8]; 256], level: Level, ranks: &[u16]) -> bool
+pub(crate) fn some_good(p: &[u8], grid: &[[u16; 8]; 256], level: Level, ranks: &[u16]) -> bool
     requires { ⌜ (Sized (length (now p)) level) × (level .start < 65536) ⌝ }
     ensures { λ r. ⌜ r ≡ anyBelow (goodIn (now (p .entry)) (now (grid .entry)) level (now (ranks .entry))) (firstWords level) ⌝ }
 {
