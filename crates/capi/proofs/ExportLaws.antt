@@ -6,51 +6,47 @@ use borrow.Author.Needs.{needs}
 use Rattle.theory.specs.Answer.{Answer, refused, accepted}
 use Rattle.theory.specs.Delay.{wins, losing}
 use Rattle.sheet.specs.Reading as reading
+use Rattle.sheet.specs.Reading.{readAnswer, refusalNumber}
 use Rattle.sheet.specs.declared.refusal.Refusal.{Refusal}
 use Rattle.sheet.specs.declared.reading.Layout.{Layout}
 use Rattle.sheet.specs.declared.reading.Reading.{Reading}
 use Rattle.sheet.specs.declared.reading.Reading.the-variants as readings
+use Rattle.sheet.proofs.Accepted.{read-accepted, read-refused}
 use Rattle.solver.specs.Solving.{Solved, meaning}
 use Rattle.solver.specs.declared.solve.Solution.{Solution}
 use Rattle.solver.specs.declared.solve.Solution.the-variants as solutions
 use Rattle.capi.specs.Exported.{numberFor, headerAfter, placesAfter, losingNumber, losingAfter}
 
--- reading r, whose answer is a
+-- reading r of the sheet s
 
-module _ (a : Answer Layout) (r : Reading) where
-  module _ (why : Refusal) (e : r ≡ readings.Refused why) (told : reading.meaning r ≡ a) where
-    refused-is : a ≡ refused (reading.refusalNumber r)
-    refused-is = sym told ∙ ap reading.meaning e ∙ ap refused (sym (ap reading.refusalNumber e))
-
-    pub refused-number : (n : ℕ) → n ≡ reading.refusalNumber r → n ≡ numberFor a
+module _ (s : List ℕ) (r : Reading) (told : reading.meaning r ≡ readAnswer s) where
+  module _ (why : Refusal) (n : ℕ) (e : r ≡ readings.Refused why) (f : n ≡ refusalNumber r) where
+    pub refused-number : n ≡ numberFor (readAnswer s)
     unfolding numberFor
-    refused-number n f = rw refused-is f
+    refused-number = rw (read-refused s r told why n e f)
 
-    pub refused-header : (b : List ℕ) → b ≡ headerAfter a b
+    pub refused-header : (b : List ℕ) → b ≡ headerAfter (readAnswer s) b
     unfolding headerAfter
-    refused-header b = rw refused-is
+    refused-header b = rw (read-refused s r told why n e f)
 
-    pub refused-places : (b : List ℕ) → b ≡ placesAfter a b
+    pub refused-places : (b : List ℕ) → b ≡ placesAfter (readAnswer s) b
     unfolding placesAfter
-    refused-places b = rw refused-is
+    refused-places b = rw (read-refused s r told why n e f)
 
-  module _ (l : Layout) (e : r ≡ readings.Accepted l) (told : reading.meaning r ≡ a) where
-    accepted-is : a ≡ accepted l
-    accepted-is = sym told ∙ ap reading.meaning e
-
-    pub accepted-number : 0 ≡ numberFor a
+  module _ (l : Layout) (e : r ≡ readings.Accepted l) where
+    pub accepted-number : 0 ≡ numberFor (readAnswer s)
     unfolding numberFor
-    accepted-number = rw accepted-is
+    accepted-number = rw (read-accepted s r told l e)
 
-    pub accepted-header : (b : List ℕ) → l .start ∷ l .actions ∷ l .delay ∷ [] ≡ headerAfter a b
+    pub accepted-header : (b : List ℕ) → l .start ∷ l .actions ∷ l .delay ∷ [] ≡ headerAfter (readAnswer s) b
     unfolding headerAfter
-    accepted-header b = rw accepted-is
+    accepted-header b = rw (read-accepted s r told l e)
 
     pub accepted-places : (b : List ℕ)
         → l .header .at ∷ l .header .size ∷ l .positions .at ∷ l .positions .size ∷ l .targets .at ∷ l .targets .size ∷ l .moves .at ∷ l .moves .size ∷ []
-        ≡ placesAfter a b
+        ≡ placesAfter (readAnswer s) b
     unfolding placesAfter
-    accepted-places b = rw accepted-is
+    accepted-places b = rw (read-accepted s r told l e)
 
 pub ruleset refuses = (needs, refused-number, refused-header, refused-places)
 

@@ -1,17 +1,17 @@
 -- The text by the length of the input and by its reading, as `list` finds them. Assumes nothing.
 use Prim.Native.Nat.{ℕ, _≤_, _<_}
-use mathlib.Core.Path.{_≡_, sym, ap, _∙_}
+use mathlib.Core.Path.{_≡_}
 use mathlib.Core.List.{List}
 use native.Mathlib.Omega.{arith}
 use lib.ListN.{length, take}
 use borrow.Author.Needs.{needs}
 use borrow.Author.Tests.{lt-ltb, le-ltb}
-use Rattle.theory.specs.Answer.{refused, accepted, onAccepted}
+use Rattle.theory.specs.Answer.{refused, onAccepted}
 use Rattle.sheet.specs.Reading.{readAnswer, meaning, refusalNumber}
 use Rattle.sheet.specs.declared.refusal.Refusal.{Refusal}
-use Rattle.sheet.specs.declared.reading.Layout.{Layout}
 use Rattle.sheet.specs.declared.reading.Reading.{Reading}
-use Rattle.sheet.specs.declared.reading.Reading.the-variants.{Accepted, Refused}
+use Rattle.sheet.specs.declared.reading.Reading.the-variants.{Refused}
+use Rattle.sheet.proofs.Accepted.{read-accepted, read-refused}
 use Rattle.text.specs.Page.{Page, page, puts}
 use Rattle.text.specs.Lines.{refusedLine}
 use Rattle.text.proofs.Page.{place-within}
@@ -47,23 +47,16 @@ module _ (s : List ℕ) (h : length s ≤ 16384) where
   unfolding ranksWith
   solved-ranks n b e = rw (le-ltb 16384 (length s) h) e
 
--- the arms of the reader's answer r
-pub read-accepted : (s : List ℕ) (l : Layout) (r : Reading) → r ≡ Accepted l → meaning r ≡ readAnswer s → readAnswer s ≡ accepted l
-read-accepted s l r e told = sym told ∙ ap meaning e
-
-module _ (s : List ℕ) (why : Refusal) (r : Reading) (e : r ≡ Refused why) (told : meaning r ≡ readAnswer s) where
-  refused-read : readAnswer s ≡ refused (refusalNumber r)
-  refused-read = sym told ∙ ap meaning e ∙ ap refused (sym (ap refusalNumber e))
-
-  refused-solved : (m n : ℕ) → solveAnswer s m n ≡ refused (refusalNumber r)
+-- a reading r that was refused is what solving refuses
+module _ (s : List ℕ) (r : Reading) (told : meaning r ≡ readAnswer s) (why : Refusal) (k : ℕ) (e : r ≡ Refused why) (f : k ≡ refusalNumber r) where
+  refused-solved : (m n : ℕ) → solveAnswer s m n ≡ refused k
   unfolding solveAnswer onAccepted
-  refused-solved m n = rw refused-read
+  refused-solved m n = rw (read-refused s r told why k e f)
 
   module _ (h : length s ≤ 16384) where
-    pub refused-text : (m n : ℕ) (p : Page) {q : Page} {k x : ℕ} → k ≡ refusalNumber r → x ≡ k → q ≡ puts p (refusedLine x)
-        → q ≡ puts p (textWith s m n)
+    pub refused-text : (m n : ℕ) (p : Page) {q : Page} {x : ℕ} → x ≡ k → q ≡ puts p (refusedLine x) → q ≡ puts p (textWith s m n)
     unfolding solvedText
-    refused-text m n p f g i = solved-text s h m n p (rw (refused-solved m n, ← f, ← g) i)
+    refused-text m n p g i = solved-text s h m n p (rw (refused-solved m n, ← g) i)
 
     pub refused-masks : (n : ℕ) (b : List ℕ) → b ≡ masksWith s n b
     unfolding masksAfter

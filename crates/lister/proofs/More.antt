@@ -4,7 +4,7 @@ use mathlib.Core.Path.{_≡_}
 use mathlib.Core.List.{List}
 use native.Mathlib.Omega.{arith}
 use native.Mathlib.Nat.{le-trans, pow-le-pow-left, pow-le-pow-right}
-use lib.ListN.{length, take, drop, length-append, length-drop}
+use lib.ListN.{length, take, drop, length-append}
 use lib.Seq.{take-append-seam}
 use Rattle.solver.specs.Solving.{over}
 
@@ -17,10 +17,6 @@ over-first entries buffer n e = rw e (take-append-seam entries (drop (length ent
 pub over-room : (entries buffer : List ℕ) → length entries ≤ length (over entries buffer)
 unfolding over
 over-room entries buffer = rw length-append (omega arith)
-
-pub over-length : (entries buffer : List ℕ) → length entries ≤ length buffer → length (over entries buffer) ≡ length buffer
-unfolding over
-over-length entries buffer h = simp (length-append, length-drop) (omega arith)
 
 -- at most 8 actions, 3 in a word
 pub power-small : (a l : ℕ) → a ≤ 8 → l ≤ 3 → a ^ l ≤ 512

@@ -1,5 +1,6 @@
 // The listing program, from the bytes of its input to the lines that document 01 prints.
 use sheet::form::wide;
+use sheet::limits::MOST_NODES;
 use sheet::reading::Layout;
 use sheet::reading::Reading;
 use sheet::reading::read;
@@ -30,6 +31,12 @@ ghost use Rattle.lister.specs.Parts.{Small, flagsIn};
 
 const MOST_INPUT: usize = 16384;
 
+// First words: 8 actions, 3 in a word.
+const MOST_WORDS: usize = 512;
+
+// The largest text has 463,911 bytes (proofs/ProgramLaws.antt, fits).
+const MOST_TEXT: usize = 464000;
+
 fn nodes_at(positions: usize, actions: u8, delay: u8) -> usize
     requires { ⌜ Small positions actions delay ⌝ }
     ensures { λ r. ⌜ r ≡ nodesOf positions actions delay ⌝ }
@@ -37,11 +44,11 @@ fn nodes_at(positions: usize, actions: u8, delay: u8) -> usize
     positions * power(actions, wide(delay) / 2)
 }
 
-// A line for each good first word, by the ranks at the asked delay. There are at most 512 words: 8 actions, 3 in a word.
+// A line for each good first word, by the ranks at the asked delay.
 fn put_words(out: &mut [u8], at: usize, sheet: &[u8], l: Layout, ranks: &[u16]) -> usize
     ensures { λ r. ⌜ page (now (out .exit)) r ≡ puts (page (now (out .entry)) at) (startLines (l .actions) (initialLength (l .delay)) (flagsIn (now (sheet .entry)) (now (ranks .entry)))) ⌝ }
 {
-    let mut flags = [0u8; 512];
+    let mut flags = [0u8; MOST_WORDS];
     let n = initial_flags(sheet, ranks, &mut flags);
     put_starts(
         out,
@@ -112,21 +119,21 @@ pub fn list(sheet: &[u8], masks: &mut [u8], ranks: &mut [u16], out: &mut [u8]) -
 }
 
 // The same with buffers that suffice for every sheet: the whole text, and nothing else of `out` is altered.
-pub fn list_into(sheet: &[u8], out: &mut [u8; 464000]) -> usize
+pub fn list_into(sheet: &[u8], out: &mut [u8; MOST_TEXT]) -> usize
     ensures size { λ r. ⌜ r ≡ length (programText (now (sheet .entry))) ⌝ }
     ensures text { λ r. ⌜ now (out .exit) ≡ over (programText (now (sheet .entry))) (now (out .entry)) ⌝ }
     ensures counts { λ r. ⌜ Counts r (now (out .exit)) ⌝ }
 {
-    let mut masks = [0u8; 16384];
-    let mut ranks = [0u16; 16384];
+    let mut masks = [0u8; MOST_NODES];
+    let mut ranks = [0u16; MOST_NODES];
     list(sheet, &mut masks, &mut ranks, out)
 }
 
 // The program: one byte more than is allowed is read, so that input that is too long is seen to be.
 pub fn run() {
-    let mut sheet = [0u8; 16385];
+    let mut sheet = [0u8; MOST_INPUT + 1];
     let n = io::read_full(0, &mut sheet);
-    let mut out = [0u8; 464000];
+    let mut out = [0u8; MOST_TEXT];
     let size = list_into(&sheet[..n], &mut out);
     io::write_all(1, &out[..size]);
 }
