@@ -13,8 +13,8 @@ use borrow.Author.Tests.{le-leb}
 use Rattle.theory.specs.Answer.{Answer, refused, accepted, check, onAccepted}
 use Rattle.theory.specs.Strategy.{initialLength}
 use Rattle.theory.specs.Rounds.{masks, finalRanks}
-use Rattle.theory.specs.Delay.{Verdict, wins, losing, arena, words, flags, initialWords, answer}
-use Rattle.theory.proofs.Fold.{bool, both-true, length-tabulate}
+use Rattle.theory.specs.Delay.{Verdict, wins, losing, arena, words, flags, answer}
+use Rattle.theory.proofs.Fold.{bool, both-true}
 use Rattle.theory.proofs.Answer.{check-passed}
 use Rattle.theory.proofs.Rounds.{final-length, final-le}
 use Rattle.theory.proofs.Region.{length-masks}
@@ -29,7 +29,7 @@ use Rattle.text.proofs.Sizes.{refused-size, losing-size, head-size, starts-size
 use Rattle.solver.specs.Solving.{solveAnswer, over}
 use Rattle.lister.specs.Listing.{wonText, lostText, gameText, readText, listingOf, programText, solvedText, textWith}
 use Rattle.lister.proofs.SolvedLaws.{losing-within}
-use Rattle.lister.proofs.Words.{few-words}
+use Rattle.lister.proofs.Words.{few-words, flags-length}
 
 -- the buffers suffice
 
@@ -115,15 +115,11 @@ module _ (s : List ℕ) (l : Layout) (e : readAnswer s ≡ accepted l) where
       let asked : arena (gameOf s) (delayOf s) .nodes ≤ 16384 = rw (arena-nodes s (delayOf s)) (r .few-nodes) in
       le-trans (nodes-fewer m h) asked
 
-  flags-length : length (flags (gameOf s) (delayOf s)) ≡ initialWords (gameOf s) (delayOf s)
-  unfolding flags
-  flags-length = length-tabulate _ 0 _
-
   game-size : (v : Verdict) → answer (gameOf s) (delayOf s) ≡ v → length (gameText (gameOf s) (delayOf s) v) ≤ 463911
   unfolding gameText
   game-size wins q =
       won-size (delayOf s) (gameOf s .positions) (gameOf s .actions) (flags (gameOf s) (delayOf s)) (masks (arena (gameOf s) (delayOf s)))
-      (r .short-delay) few-positions some-action few-actions (rw flags-length (few-words s l e))
+      (r .short-delay) few-positions some-action few-actions (rw (flags-length s l e) (few-words s l e))
       (rw (length-masks (arena (gameOf s) (delayOf s))) (nodes-words (delayOf s)))
       (rw (length-masks (arena (gameOf s) (delayOf s))) (few-nodes (delayOf s) (omega arith)))
   game-size (losing m) q =

@@ -128,20 +128,17 @@ module _ (s : List ℕ) (mb rb : List ℕ) where
         pub won-masks-room : ms ≡ masksAfter s solved mb → n ≤ length ms
         won-masks-room f = rw (won-masks ms f) (masks-room s l (l .delay) read mb n is)
 
-        pub won-ranks-room : rs ≡ ranksLeft s solved rb → n ≤ length rs
-        won-ranks-room f = rw (won-ranks rs f) (ranks-room s l (l .delay) read rb n is)
-
         pub won-text : (p : Page) {q : Page} → ms ≡ masksAfter s solved mb → rs ≡ ranksLeft s solved rb
-            → q ≡ puts p (wonText (l .delay) (l .positions .size) (l .actions) (flagsIn s (take n rs)) (take n ms))
+            → q ≡ puts p (wonText (l .delay) (l .positions .size) (l .actions) (flagsIn s rs) (take n ms))
             → q ≡ puts p (solvedText s solved)
         unfolding solvedText gameText
         won-text p f g h =
             let c = carries s l read in
             let firstMasks : take n ms ≡ masks (arena (gameOf s) (l .delay)) =
             rw (won-masks ms f) (masks-first s l (l .delay) read mb n is) in
-            let firstRanks : take n rs ≡ finalRanks (arena (gameOf s) (l .delay)) =
-            rw (won-ranks rs g) (ranks-first s l (l .delay) read rb n is) in
-            let good = flags-are s l read (take n rs) (rw (c .delay) at firstRanks) in
+            let firstRanks : take (arena (gameOf s) (l .delay) .nodes) rs ≡ finalRanks (arena (gameOf s) (l .delay)) =
+            rw (won-ranks rs g) (ranks-first s l (l .delay) read rb _ (nodes s l (l .delay) read)) in
+            let good = flags-are s l read rs (rw (c .delay) at firstRanks) in
             rw won-answer
             (h
             ∙ ap (puts p)
@@ -180,4 +177,4 @@ part-count n xs h = sym (length-take-le n xs h)
 pub asked-small : (s : List ℕ) (l : Layout) → readAnswer s ≡ accepted l → Small (l .positions .size) (l .actions) (l .delay)
 asked-small s l e = small-at s l (l .delay) e (omega (arith, carries s l e .delay))
 
-pub ruleset solving = (needs, refused-text, asked-small, won-masks-room, won-ranks-room, won-text, lost-small, lost-ranks-room, lost-text, part-count)
+pub ruleset solving = (needs, refused-text, asked-small, won-masks-room, won-text, lost-small, lost-ranks-room, lost-text, part-count)

@@ -3,7 +3,7 @@ use Prim.Native.Nat.{ℕ, _+_, _*_, _/_, _^_, _≤_}
 use mathlib.Core.Path.{_≡_}
 use mathlib.Core.List.{List}
 use native.Mathlib.Omega.{arith}
-use lib.ListN.{take, replicate}
+use lib.ListN.{take}
 use borrow.Author.Needs.{needs}
 use borrow.Author.Tests.{le-leb}
 use Rattle.theory.specs.Strategy.{initialLength}
@@ -13,7 +13,7 @@ use Rattle.text.specs.Lines.{headLine, winningLine, losingLine, startLines, all
 use Rattle.text.proofs.Page.{after}
 use Rattle.solver.specs.Flags.{flagsCount, flagsAfter}
 use Rattle.lister.specs.Listing.{wonText, lostText}
-use Rattle.lister.specs.Parts.{Small, flagsIn}
+use Rattle.lister.specs.Parts.{Small, blank, flagsIn}
 use Rattle.lister.proofs.More.{power-small}
 
 -- the number of nodes
@@ -25,7 +25,7 @@ nodes-are p a d v w s e f =
 
 -- the lines of good first words
 pub words-are : (a d n : ℕ) (s ranks fs : List ℕ) (p : Page) {q : Page} {x y : ℕ} → x ≡ a → y ≡ d → n ≡ flagsCount s 512
-    → fs ≡ flagsAfter s ranks (replicate 512 0) → q ≡ puts p (startLines x ((y + 1) / 2) (take n fs))
+    → fs ≡ flagsAfter s ranks blank → q ≡ puts p (startLines x ((y + 1) / 2) (take n fs))
     → q ≡ puts p (startLines a (initialLength d) (flagsIn s ranks))
 unfolding flagsIn
 words-are a d n s ranks fs p e f g h z = rw (e, f, g, h) at z

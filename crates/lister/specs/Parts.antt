@@ -15,6 +15,10 @@ pub record Small (positions actions delay : ℕ) : Type 0 where
 abbrev pub mostWords : ℕ
 mostWords = 512
 
+-- the buffer of their flags, as it is made
+abbrev pub blank : List ℕ
+blank = replicate mostWords 0
+
 -- the flags that the ranks give the first words of a sheet
 unfoldable pub flagsIn : List ℕ → List ℕ → List ℕ
-flagsIn s ranks = take (flagsCount s mostWords) (flagsAfter s ranks (replicate mostWords 0))
+flagsIn s ranks = take (flagsCount s mostWords) (flagsAfter s ranks blank)

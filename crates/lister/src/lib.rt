@@ -92,7 +92,7 @@ fn put_game(out: &mut [u8], sheet: &[u8], l: Layout, masks: &mut [u8], ranks: &m
         Solution::Refused(number) => put_refused(out, 0, wide(number)),
         Solution::Winning(_) => {
             let nodes = nodes_at(l.positions.size, l.actions, l.delay);
-            put_won(out, sheet, l, &masks[..nodes], &ranks[..nodes])
+            put_won(out, sheet, l, &masks[..nodes], ranks)
         }
         Solution::Losing(m, _) => {
             let nodes = nodes_at(l.positions.size, l.actions, m);

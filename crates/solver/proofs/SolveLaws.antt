@@ -285,6 +285,21 @@ module _ (s : List ℕ) (rd : Reading) (e : reading.meaning rd ≡ readAnswer s)
           unfolding ranksLeft
           ranks-filled = rw (solved, ← stop-is) (filled-read .stopped .ranks)
 
-pub ruleset solving =
-    (needs, handed-on, masks-untouched, ranks-untouched, room-read, masks-refused, ranks-refused, masks-kept-1, ranks-kept-1, masks-kept-2,
-    ranks-kept-2, fillable-read, answer-won, answer-lost, masks-filled, ranks-filled)
+pub ruleset solving = (
+  needs,
+  handed-on,
+  masks-untouched,
+  ranks-untouched,
+  room-read,
+  masks-refused,
+  ranks-refused,
+  masks-kept-1,
+  ranks-kept-1,
+  masks-kept-2,
+  ranks-kept-2,
+  fillable-read,
+  answer-won,
+  answer-lost,
+  masks-filled,
+  ranks-filled,
+)

@@ -28,12 +28,6 @@ slice-reshare-prefix-put-won c = search solving
 slice-aggregate-put-won : tie.Need-slice-aggregate-put-won
 slice-aggregate-put-won c = search solving
 
-slice-reshare-prefix-put-won-2 : tie.Need-slice-reshare-prefix-put-won-2
-slice-reshare-prefix-put-won-2 c = search solving
-
-slice-aggregate-put-won-2 : tie.Need-slice-aggregate-put-won-2
-slice-aggregate-put-won-2 c = search solving
-
 put-won-requires : tie.Need-put-won-requires
 put-won-requires c κs = search needs
 
@@ -100,8 +94,6 @@ put-game-spec =
     nodes-at-requires
     slice-reshare-prefix-put-won
     slice-aggregate-put-won
-    slice-reshare-prefix-put-won-2
-    slice-aggregate-put-won-2
     put-won-requires
     enum-known-solution-2
     nodes-at-requires-2
