@@ -11,7 +11,7 @@ pub record Small (positions actions delay : ℕ) : Type 0 where
   pub few-actions : actions ≤ mostActions
   pub short-delay : delay ≤ mostDelay
 
--- "8 commands", words of 3: the most first words
+-- the most first words: 8 actions, 3 in a word
 abbrev pub mostWords : ℕ
 mostWords = 512
 
