@@ -198,14 +198,17 @@ module _ (s : List ℕ) (rd : Reading) (e : reading.meaning rd ≡ readAnswer s)
           ap (λ (x : Level). x .nodes) is
           ∙ rw (positions-is, c .actions, c .delay) (sym (arena-nodes s (delayOf s)))
 
+      abbrev owed : ℕ
+      owed = arena (gameOf s) (delayOf s) .nodes
+
       abbrev roomy : ℕ → ℕ → Bool
-      roomy m k = both (leb (arena (gameOf s) (delayOf s) .nodes) m) (leb (arena (gameOf s) (delayOf s) .nodes) k)
+      roomy m k = both (leb owed m) (leb owed k)
 
       few-masks : (m k : ℕ) → m < v .nodes → roomy m k ≡ false
-      few-masks m k h = let n = nodes-read in both-none _ _ (lt-leb _ _ (omega arith))
+      few-masks m k h = let n = nodes-read in both-none _ _ (lt-leb owed m (omega arith))
 
       few-ranks : (m k : ℕ) → k < v .nodes → roomy m k ≡ false
-      few-ranks m k h = let n = nodes-read in both-false _ _ (lt-leb _ _ (omega arith))
+      few-ranks m k h = let n = nodes-read in both-false _ _ (lt-leb owed k (omega arith))
 
       refuses-8 : (m k : ℕ) → roomy m k ≡ false → solveAnswer s m k ≡ refused 8
       unfolding solveAnswer onAccepted
@@ -240,7 +243,7 @@ module _ (s : List ℕ) (rd : Reading) (e : reading.meaning rd ≡ readAnswer s)
         unfolding solveAnswer onAccepted
         solved =
             let n = nodes-read in
-            rw answered (check-passed _ 8 _ (both-true _ _ (le-leb _ _ (omega arith)) (le-leb _ _ (omega arith))))
+            rw answered (check-passed _ 8 _ (both-true _ _ (le-leb owed (length m) (omega arith)) (le-leb owed (length k) (omega arith))))
 
         game-read : bodiesGame p c u (l .start) (l .actions) ≡ gameOf s
         game-read =
@@ -266,25 +269,38 @@ module _ (s : List ℕ) (rd : Reading) (e : reading.meaning rd ≡ readAnswer s)
           stop-is : r .delay ≡ solvedDelay (delayOf s) (answer (gameOf s) (delayOf s))
           stop-is = filled-read .stopped .delay
 
-          pub answer-won : r .wins ≡ true → accepted (record { verdict = wins; layout = l }) ≡ solveAnswer s (length m) (length k)
+          answer-won : r .wins ≡ true → accepted (record { verdict = wins; layout = l }) ≡ solveAnswer s (length m) (length k)
           unfolding verdictBy
           answer-won w =
               ap (λ x. accepted (record { verdict = x; layout = l })) (rw w at (filled-read .stopped .verdict)) ∙ sym solved
 
-          pub answer-lost : r .wins ≡ false
+          answer-lost : r .wins ≡ false
               → accepted (record { verdict = losing (r .delay); layout = l }) ≡ solveAnswer s (length m) (length k)
           unfolding verdictBy
           answer-lost w =
               ap (λ x. accepted (record { verdict = x; layout = l })) (rw w at (filled-read .stopped .verdict)) ∙ sym solved
 
-          pub masks-filled : m′ ≡ masksAfter s (solveAnswer s (length m) (length k)) m
+          masks-filled : m′ ≡ masksAfter s (solveAnswer s (length m) (length k)) m
           unfolding masksAfter
           masks-filled = rw (solved, ← stop-is) (filled-read .masks)
 
-          pub ranks-filled : k′ ≡ ranksLeft s (solveAnswer s (length m) (length k)) k
+          ranks-filled : k′ ≡ ranksLeft s (solveAnswer s (length m) (length k)) k
           unfolding ranksLeft
           ranks-filled = rw (solved, ← stop-is) (filled-read .stopped .ranks)
 
+          -- the three promises
+          abbrev Promised : Verdict → Type 0
+          Promised x =
+              (accepted (record { verdict = x; layout = l }) ≡ solveAnswer s (length m) (length k))
+              × (m′ ≡ masksAfter s (solveAnswer s (length m) (length k)) m)
+              × (k′ ≡ ranksLeft s (solveAnswer s (length m) (length k)) k)
+
+          pub solves-won : r .wins ≡ true → Promised wins
+          solves-won w = (answer-won w, masks-filled, ranks-filled)
+
+          pub solves-lost : r .wins ≡ false → Promised (losing (r .delay))
+          solves-lost w = (answer-lost w, masks-filled, ranks-filled)
+
 pub ruleset solving =
     (needs, handed-on, masks-untouched, ranks-untouched, room-read, masks-refused, ranks-refused, masks-kept-1, ranks-kept-1, masks-kept-2,
-    ranks-kept-2, fillable-read, answer-won, answer-lost, masks-filled, ranks-filled)
+    ranks-kept-2, fillable-read)
