@@ -292,14 +292,14 @@ module _ (s : List ℕ) (rd : Reading) (e : reading.meaning rd ≡ readAnswer s)
           abbrev Promised : Verdict → Type 0
           Promised x =
               (accepted (record { verdict = x; layout = l }) ≡ solveAnswer s (length m) (length k))
-              × (m′ ≡ masksAfter s (solveAnswer s (length m) (length k)) m)
-              × (k′ ≡ ranksLeft s (solveAnswer s (length m) (length k)) k)
+              × ((m′ ≡ masksAfter s (solveAnswer s (length m) (length k)) m)
+              × (k′ ≡ ranksLeft s (solveAnswer s (length m) (length k)) k))
 
           pub solves-won : r .wins ≡ true → Promised wins
-          solves-won w = (answer-won w, masks-filled, ranks-filled)
+          solves-won w = (answer-won w, (masks-filled, ranks-filled))
 
           pub solves-lost : r .wins ≡ false → Promised (losing (r .delay))
-          solves-lost w = (answer-lost w, masks-filled, ranks-filled)
+          solves-lost w = (answer-lost w, (masks-filled, ranks-filled))
 
 pub ruleset solving =
     (needs, handed-on, masks-untouched, ranks-untouched, room-read, masks-refused, ranks-refused, masks-kept-1, ranks-kept-1, masks-kept-2,
