@@ -191,6 +191,12 @@ module _ (s : List ℕ) (rd : Reading) (e : reading.meaning rd ≡ readAnswer s)
           few-nodes = r .few-nodes;
         })
 
+    pub game-read : (c u : List ℕ) → c ≡ partAt s (l .targets) → u ≡ partAt s (l .moves)
+        → bodiesGame p c u (l .start) (l .actions) ≡ gameOf s
+    game-read c u ec eu =
+        let x = carries s l answered in
+        rw (positions-is, ec, eu, x .targets-part, x .moves-part, x .start, x .actions) (bodies-game s (read-is s l answered .0))
+
     module _ (v : Level) (is : v ≡ levelAt (length p) (l .start) (l .actions) (l .delay)) where
       nodes-read : v .nodes ≡ arena (gameOf s) (delayOf s) .nodes
       nodes-read =
@@ -245,18 +251,13 @@ module _ (s : List ℕ) (rd : Reading) (e : reading.meaning rd ≡ readAnswer s)
             let n = nodes-read in
             rw answered (check-passed _ 8 _ (both-true _ _ (le-leb owed (length m) (omega arith)) (le-leb owed (length k) (omega arith))))
 
-        game-read : bodiesGame p c u (l .start) (l .actions) ≡ gameOf s
-        game-read =
-            let x = carries s l answered in
-            rw (positions-is, ec, eu, x .targets-part, x .moves-part, x .start, x .actions) (bodies-game s (read-is s l answered .0))
-
         pub fillable-read : Fillable p c u (l .start) (l .actions) (l .delay) m k
         fillable-read =
             let n = ap (λ (x : Level). x .nodes) is in
             record {
               room = room-read;
               few-moves = rw (eu, carries s l answered .moves-part) (ranges s (read-is s l answered .0) .few-moves);
-              legal = rw game-read (legal-game s l answered);
+              legal = rw (game-read c u ec eu) (legal-game s l answered);
               masks-room = omega arith;
               ranks-room = omega arith;
             }
@@ -264,7 +265,7 @@ module _ (s : List ℕ) (rd : Reading) (e : reading.meaning rd ≡ readAnswer s)
         -- after filling
         module _ (m′ k′ : List ℕ) (r : Stop) (filled : Filled (bodiesGame p c u (l .start) (l .actions)) (l .delay) m k m′ k′ r) where
           filled-read : Filled (gameOf s) (delayOf s) m k m′ k′ r
-          filled-read = rw (game-read, carries s l answered .delay) at filled
+          filled-read = rw (game-read c u ec eu, carries s l answered .delay) at filled
 
           stop-is : r .delay ≡ solvedDelay (delayOf s) (answer (gameOf s) (delayOf s))
           stop-is = filled-read .stopped .delay
