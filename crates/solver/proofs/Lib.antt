@@ -10,3 +10,6 @@ pub mod RoundLaws
 pub mod SearchLaws
 pub mod Bodies
 pub mod SolveLaws
+pub mod FlagLaws
+pub mod Demand2
+pub mod Cases

@@ -191,6 +191,12 @@ module _ (s : List ℕ) (rd : Reading) (e : reading.meaning rd ≡ readAnswer s)
           few-nodes = r .few-nodes;
         })
 
+    pub game-read : (c u : List ℕ) → c ≡ partAt s (l .targets) → u ≡ partAt s (l .moves)
+        → bodiesGame p c u (l .start) (l .actions) ≡ gameOf s
+    game-read c u ec eu =
+        let x = carries s l answered in
+        rw (positions-is, ec, eu, x .targets-part, x .moves-part, x .start, x .actions) (bodies-game s (read-is s l answered .0))
+
     module _ (v : Level) (is : v ≡ levelAt (length p) (l .start) (l .actions) (l .delay)) where
       nodes-read : v .nodes ≡ arena (gameOf s) (delayOf s) .nodes
       nodes-read =
@@ -198,14 +204,17 @@ module _ (s : List ℕ) (rd : Reading) (e : reading.meaning rd ≡ readAnswer s)
           ap (λ (x : Level). x .nodes) is
           ∙ rw (positions-is, c .actions, c .delay) (sym (arena-nodes s (delayOf s)))
 
+      abbrev owed : ℕ
+      owed = arena (gameOf s) (delayOf s) .nodes
+
       abbrev roomy : ℕ → ℕ → Bool
-      roomy m k = both (leb (arena (gameOf s) (delayOf s) .nodes) m) (leb (arena (gameOf s) (delayOf s) .nodes) k)
+      roomy m k = both (leb owed m) (leb owed k)
 
       few-masks : (m k : ℕ) → m < v .nodes → roomy m k ≡ false
-      few-masks m k h = let n = nodes-read in both-none _ _ (lt-leb _ _ (omega arith))
+      few-masks m k h = let n = nodes-read in both-none _ _ (lt-leb owed m (omega arith))
 
       few-ranks : (m k : ℕ) → k < v .nodes → roomy m k ≡ false
-      few-ranks m k h = let n = nodes-read in both-false _ _ (lt-leb _ _ (omega arith))
+      few-ranks m k h = let n = nodes-read in both-false _ _ (lt-leb owed k (omega arith))
 
       refuses-8 : (m k : ℕ) → roomy m k ≡ false → solveAnswer s m k ≡ refused 8
       unfolding solveAnswer onAccepted
@@ -240,12 +249,7 @@ module _ (s : List ℕ) (rd : Reading) (e : reading.meaning rd ≡ readAnswer s)
         unfolding solveAnswer onAccepted
         solved =
             let n = nodes-read in
-            rw answered (check-passed _ 8 _ (both-true _ _ (le-leb _ _ (omega arith)) (le-leb _ _ (omega arith))))
-
-        game-read : bodiesGame p c u (l .start) (l .actions) ≡ gameOf s
-        game-read =
-            let x = carries s l answered in
-            rw (positions-is, ec, eu, x .targets-part, x .moves-part, x .start, x .actions) (bodies-game s (read-is s l answered .0))
+            rw answered (check-passed _ 8 _ (both-true _ _ (le-leb owed (length m) (omega arith)) (le-leb owed (length k) (omega arith))))
 
         pub fillable-read : Fillable p c u (l .start) (l .actions) (l .delay) m k
         fillable-read =
@@ -253,7 +257,7 @@ module _ (s : List ℕ) (rd : Reading) (e : reading.meaning rd ≡ readAnswer s)
             record {
               room = room-read;
               few-moves = rw (eu, carries s l answered .moves-part) (ranges s (read-is s l answered .0) .few-moves);
-              legal = rw game-read (legal-game s l answered);
+              legal = rw (game-read c u ec eu) (legal-game s l answered);
               masks-room = omega arith;
               ranks-room = omega arith;
             }
@@ -261,45 +265,43 @@ module _ (s : List ℕ) (rd : Reading) (e : reading.meaning rd ≡ readAnswer s)
         -- after filling
         module _ (m′ k′ : List ℕ) (r : Stop) (filled : Filled (bodiesGame p c u (l .start) (l .actions)) (l .delay) m k m′ k′ r) where
           filled-read : Filled (gameOf s) (delayOf s) m k m′ k′ r
-          filled-read = rw (game-read, carries s l answered .delay) at filled
+          filled-read = rw (game-read c u ec eu, carries s l answered .delay) at filled
 
           stop-is : r .delay ≡ solvedDelay (delayOf s) (answer (gameOf s) (delayOf s))
           stop-is = filled-read .stopped .delay
 
-          pub answer-won : r .wins ≡ true → accepted (record { verdict = wins; layout = l }) ≡ solveAnswer s (length m) (length k)
+          answer-won : r .wins ≡ true → accepted (record { verdict = wins; layout = l }) ≡ solveAnswer s (length m) (length k)
           unfolding verdictBy
           answer-won w =
               ap (λ x. accepted (record { verdict = x; layout = l })) (rw w at (filled-read .stopped .verdict)) ∙ sym solved
 
-          pub answer-lost : r .wins ≡ false
+          answer-lost : r .wins ≡ false
               → accepted (record { verdict = losing (r .delay); layout = l }) ≡ solveAnswer s (length m) (length k)
           unfolding verdictBy
           answer-lost w =
               ap (λ x. accepted (record { verdict = x; layout = l })) (rw w at (filled-read .stopped .verdict)) ∙ sym solved
 
-          pub masks-filled : m′ ≡ masksAfter s (solveAnswer s (length m) (length k)) m
+          masks-filled : m′ ≡ masksAfter s (solveAnswer s (length m) (length k)) m
           unfolding masksAfter
           masks-filled = rw (solved, ← stop-is) (filled-read .masks)
 
-          pub ranks-filled : k′ ≡ ranksLeft s (solveAnswer s (length m) (length k)) k
+          ranks-filled : k′ ≡ ranksLeft s (solveAnswer s (length m) (length k)) k
           unfolding ranksLeft
           ranks-filled = rw (solved, ← stop-is) (filled-read .stopped .ranks)
 
-pub ruleset solving = (
-  needs,
-  handed-on,
-  masks-untouched,
-  ranks-untouched,
-  room-read,
-  masks-refused,
-  ranks-refused,
-  masks-kept-1,
-  ranks-kept-1,
-  masks-kept-2,
-  ranks-kept-2,
-  fillable-read,
-  answer-won,
-  answer-lost,
-  masks-filled,
-  ranks-filled,
-)
+          -- the three promises
+          abbrev Promised : Verdict → Type 0
+          Promised x =
+              (accepted (record { verdict = x; layout = l }) ≡ solveAnswer s (length m) (length k))
+              × ((m′ ≡ masksAfter s (solveAnswer s (length m) (length k)) m)
+              × (k′ ≡ ranksLeft s (solveAnswer s (length m) (length k)) k))
+
+          pub solves-won : r .wins ≡ true → Promised wins
+          solves-won w = (answer-won w, (masks-filled, ranks-filled))
+
+          pub solves-lost : r .wins ≡ false → Promised (losing (r .delay))
+          solves-lost w = (answer-lost w, (masks-filled, ranks-filled))
+
+pub ruleset solving =
+    (needs, handed-on, masks-untouched, ranks-untouched, room-read, masks-refused, ranks-refused, masks-kept-1, ranks-kept-1, masks-kept-2,
+    ranks-kept-2, fillable-read)

@@ -1,5 +1,5 @@
 -- `fill` meets its contract. Assumes nothing.
-use Rattle.solver.proofs.SolveLaws.{filling}
+use Rattle.solver.proofs.SolveLaws.{filling, fills}
 use Rattle.solver.proofs.solve.fill.Statement.{statement}
 use Rattle.solver.proofs.solve.fill.Tie as tie
 
@@ -37,7 +37,13 @@ same-length-2 : tie.Need-same-length-2
 same-length-2 c = search filling
 
 returns : tie.Need-returns
-returns c = search filling
+returns c =
+    let v = c .before .before .before .before .before .before .before in
+    let s = v .before .before .before in
+    let f = s .before .before .before .before in
+    let e = f .before .before .before .before .before .before .before in
+    fills _ _ _ _ _ _ _ _ (e .pre) _ _ (f .before .grid-of .ensures) (f .first-lines .ensures) _ _ (s .search .ensures) _
+    (v .level-at .ensures) (c .before .before .fill-masks .ensures)
 
 pub fill-spec : {M : Type 1} → statement M
 fill-spec =
