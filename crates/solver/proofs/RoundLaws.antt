@@ -128,9 +128,9 @@ fallen-all n ranks most =
     (λ k.
     fallen-is n ranks k
     ∙ ⊎-elim
-    (λ (h : 0 < getD ranks k 0). within-some n _ h (most k) ∙ sym (fell-true ranks k h))
-    (λ (h : getD ranks k 0 ≤ 0). within-zero n _ (omega arith) ∙ sym (fell-false ranks k (omega arith)))
-    (below? 0 (getD ranks k 0)))
+      (λ (h : 0 < getD ranks k 0). within-some n _ h (most k) ∙ sym (fell-true ranks k h))
+      (λ (h : getD ranks k 0 ≤ 0). within-zero n _ (omega arith) ∙ sym (fell-false ranks k (omega arith)))
+      (below? 0 (getD ranks k 0)))
 
 stands-is : (ranks : List ℕ) (k : ℕ) → eqb (getD ranks k 0) 0 ≡ not (fell ranks k)
 unfolding fell
@@ -164,9 +164,9 @@ module _ (E : Arena) (n : ℕ) (old : List ℕ) where
       (λ j.
       fallen-is n (filled (rankIn E n old) k old) j
       ∙ ⊎-elim
-      (λ (h : j < k). ap (within n) (filled-below (rankIn E n old) old k j h) ∙ rank-within j)
-      (λ (h : k ≤ j). ap (within n) (filled-above (rankIn E n old) old k j h))
-      (below? j k)
+        (λ (h : j < k). ap (within n) (filled-below (rankIn E n old) old k j h) ∙ rank-within j)
+        (λ (h : k ≤ j). ap (within n) (filled-above (rankIn E n old) old k j h))
+        (below? j k)
       ∙ sym (fallen-is n old j))
 
   -- the half-updated list strikes what the old one does
@@ -330,7 +330,6 @@ module _ (E : Arena) (n : ℕ) {ranks : List ℕ} (e : ranks ≡ ranksAfter E n)
           let q : getD now k 0 ≡ rankIn E n ranks k = ap (λ (l : List ℕ). getD l k 0) d ∙ next-at E n ranks k h in
           let r = rank-struck E n ranks k t in
           omega arith
-
       older : (k : ℕ) → (fell ranks k ≡ true) ⊎ (fell ranks k ≡ false) → not (fell now k) ≡ true → not (fell ranks k) ≡ true
       older k b t =
           ⊎-elim
