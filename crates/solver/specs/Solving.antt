@@ -1,0 +1,90 @@
+-- Solving a game sheet: document 01's answer to every list of bytes and every pair of buffers, and what the buffers hold after
+-- it. Assumes nothing.
+use Prim.Native.Nat.{ℕ, _/_, _≤_}
+use mathlib.Core.Path.{_≡_}
+use mathlib.Core.Bool.{Bool, true, false}
+use mathlib.Core.List.{List, _++_}
+use lib.Dec.{leb}
+use lib.ListN.{length, getD, drop}
+use Rattle.theory.specs.Fold.{both}
+use Rattle.theory.specs.Answer.{Answer, refused, accepted, check, onAccepted}
+use Rattle.theory.specs.Game.{Game, Legal}
+use Rattle.theory.specs.Rounds.{masks, finalRanks}
+use Rattle.theory.specs.Delay.{Verdict, wins, losing, arena, answer}
+use Rattle.sheet.specs.Reading.{readAnswer, delayOf}
+use Rattle.sheet.specs.Limits.{mostMoves}
+use Rattle.sheet.specs.Checks.{nodesOf}
+use Rattle.sheet.specs.Meant.{gameOf, gridOf}
+use Rattle.sheet.specs.declared.reading.Layout.{Layout}
+use Rattle.solver.specs.View.{firstsOf, viewOf, Room}
+use Rattle.solver.specs.Strikes.{AtMost}
+use Rattle.solver.specs.declared.delays.Stop.{Stop}
+use Rattle.solver.specs.declared.solve.Solution.{Solution}
+use Rattle.solver.specs.declared.solve.Solution.the-variants.{Winning, Losing, Refused}
+
+-- "winning", or "losing m", with what the accepted reading carried
+pub record Solved : Type 0 where
+  pub verdict : Verdict
+  pub layout : Layout
+
+-- "1 to 7; then 8: the mask area or the rank area has fewer entries than positions × A^L at the asked lag"
+unfoldable pub solveAnswer : List ℕ → ℕ → ℕ → Answer Solved
+solveAnswer s masksRoom ranksRoom =
+    let G = gameOf s in
+    let d = delayOf s in
+    onAccepted (readAnswer s)
+    (λ l.
+    check (both (leb (arena G d .nodes) masksRoom) (leb (arena G d .nodes) ranksRoom)) 8
+    (accepted (record { verdict = answer G d; layout = l })))
+
+-- "the entries for the asked lag (winning) or for m (losing)"
+unfoldable pub solvedDelay : ℕ → Verdict → ℕ
+solvedDelay d wins = d
+solvedDelay d (losing m) = m
+
+-- "entries beyond are untouched"
+unfoldable pub over : List ℕ → List ℕ → List ℕ
+over entries buffer = entries ++ drop (length entries) buffer
+
+-- what the buffers hold after an answer: a refusal "alters no lent area"
+unfoldable pub masksAfter : List ℕ → Answer Solved → List ℕ → List ℕ
+masksAfter s (refused n) buffer = buffer
+masksAfter s (accepted a) buffer = over (masks (arena (gameOf s) (solvedDelay (delayOf s) (a .verdict)))) buffer
+
+unfoldable pub ranksLeft : List ℕ → Answer Solved → List ℕ → List ℕ
+ranksLeft s (refused n) buffer = buffer
+ranksLeft s (accepted a) buffer = over (finalRanks (arena (gameOf s) (solvedDelay (delayOf s) (a .verdict)))) buffer
+
+-- document 01's number and values for every case of the code's answer
+abbrev pub meaning : Solution → Answer Solved
+meaning (Winning l) = accepted (record { verdict = wins; layout = l })
+meaning (Losing m l) = accepted (record { verdict = losing m; layout = l })
+meaning (Refused n) = refused n
+
+unfoldable pub verdictBy : Bool → ℕ → Verdict
+verdictBy true m = wins
+verdictBy false m = losing m
+
+-- where the search upward stopped, and the ranks that it left
+pub record Stopped (G : Game) (d : ℕ) (before after : List ℕ) (r : Stop) : Type 0 where
+  pub verdict : verdictBy (r .wins) (r .delay) ≡ answer G d
+  pub delay : r .delay ≡ solvedDelay d (answer G d)
+  pub ranks : after ≡ over (finalRanks (arena G (r .delay))) before
+  pub rounds : AtMost (r .rounds) (finalRanks (arena G (r .delay)))
+
+-- the game of the arrays that the bodies of a sheet fill
+unfoldable pub bodiesGame : List ℕ → List ℕ → List ℕ → ℕ → ℕ → Game
+bodiesGame p c u start actions = viewOf p (gridOf c) u (firstsOf u) start actions
+
+-- bodies that the solver takes, and buffers with room for them
+pub record Fillable (p c u : List ℕ) (start actions delay : ℕ) (masks ranks : List ℕ) : Type 0 where
+  pub room : Room (length p) actions delay
+  pub few-moves : length u / 2 ≤ mostMoves
+  pub legal : Legal (bodiesGame p c u start actions)
+  pub masks-room : nodesOf (length p) actions delay ≤ length masks
+  pub ranks-room : nodesOf (length p) actions delay ≤ length ranks
+
+-- the answer, and both buffers filled for the delay where the search stopped
+pub record Filled (G : Game) (d : ℕ) (masksBefore ranksBefore masksAfter ranksAfter : List ℕ) (r : Stop) : Type 0 where
+  pub stopped : Stopped G d ranksBefore ranksAfter r
+  pub masks : masksAfter ≡ over (masks (arena G (r .delay))) masksBefore

@@ -1,0 +1,78 @@
+// The masks: what each node allows once the ranks stand.
+use crate::level::Level;
+use crate::walk::spoilt;
+use crate::words::kept;
+ghost use mathlib.Core.Path.{_≡_};
+ghost use Prim.Native.Nat.{_<_};
+ghost use lib.ListN.{length};
+ghost use Rattle.theory.specs.Rounds.{maskAt, masksBy};
+ghost use Rattle.solver.specs.View.{Sized, arenaOf};
+ghost use Rattle.solver.specs.Strikes.{AtMost};
+ghost use Rattle.solver.specs.Walks.{allowedIn};
+
+// The bits of the actions that are not spoilt at node k, which is kept.
+fn allowed(
+    p: &[u8],
+    grid: &[[u16; 8]; 256],
+    u: &[u8],
+    firsts: &[u16; 257],
+    level: Level,
+    ranks: &[u16],
+    n: u16,
+    k: usize,
+) -> u8
+    requires { ⌜ (Sized (length (now p)) level) × (k < level .nodes) ⌝ }
+    ensures { λ r. ⌜ r ≡ allowedIn (arenaOf (now (p .entry)) (now (grid .entry)) (now (u .entry)) (now (firsts .entry)) level) n (now (ranks .entry)) k ⌝ }
+{
+    let mut mask: usize = 0;
+    let mut bit: usize = 1;
+    let mut c: usize = 0;
+    while c < level.actions {
+        if !spoilt(p, grid, u, firsts, level, ranks, n, k, c) {
+            mask += bit;
+        }
+        bit *= 2;
+        c += 1;
+    }
+    mask as u8
+}
+
+fn mask_of(
+    p: &[u8],
+    grid: &[[u16; 8]; 256],
+    u: &[u8],
+    firsts: &[u16; 257],
+    level: Level,
+    ranks: &[u16],
+    n: u16,
+    k: usize,
+) -> u8
+    requires { ⌜ (Sized (length (now p)) level) × (k < level .nodes) × (AtMost n (now ranks)) ⌝ }
+    ensures { λ r. ⌜ r ≡ maskAt (arenaOf (now (p .entry)) (now (grid .entry)) (now (u .entry)) (now (firsts .entry)) level) (now (ranks .entry)) k ⌝ }
+{
+    if !kept(p, level, ranks, k) {
+        return 0;
+    }
+    allowed(p, grid, u, firsts, level, ranks, n, k)
+}
+
+// Fills the masks. No rank is over n.
+pub(crate) fn fill_masks(
+    p: &[u8],
+    grid: &[[u16; 8]; 256],
+    u: &[u8],
+    firsts: &[u16; 257],
+    level: Level,
+    ranks: &[u16],
+    n: u16,
+    masks: &mut [u8],
+)
+    requires { ⌜ (Sized (length (now p)) level) × (AtMost n (now ranks)) × (length (now masks) ≡ level .nodes) ⌝ }
+    ensures { λ r. ⌜ now (masks .exit) ≡ masksBy (arenaOf (now (p .entry)) (now (grid .entry)) (now (u .entry)) (now (firsts .entry)) level) (now (ranks .entry)) ⌝ }
+{
+    let mut k: usize = 0;
+    while k < level.nodes {
+        masks[k] = mask_of(p, grid, u, firsts, level, ranks, n, k);
+        k += 1;
+    }
+}

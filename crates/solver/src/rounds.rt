@@ -1,0 +1,120 @@
+// The rounds, in place in the lent rank buffer, which has one entry for each node.
+use crate::level::Level;
+use crate::walk::doomed;
+use sheet::kinds::controller_at;
+use sheet::kinds::safe_at;
+ghost use mathlib.Core.Path.{_≡_};
+ghost use Prim.Native.Nat.{_≤_, _<_};
+ghost use lib.ListN.{length};
+ghost use Rattle.theory.specs.Fold.{anyBelow, tabulate};
+ghost use Rattle.theory.specs.Rounds.{finalRanks};
+ghost use Rattle.solver.specs.View.{Sized, arenaOf};
+ghost use Rattle.solver.specs.Strikes.{rightAt, firstRank, struckBy, strikes, nextRanks, AtMost};
+
+// Is this position of the side whose nodes can fall?
+pub fn on_right(p: &[u8], odd: bool, q: usize) -> bool
+    ensures { λ r. ⌜ r ≡ rightAt odd (now (p .entry)) q ⌝ }
+{
+    if odd {
+        return !controller_at(p, q);
+    }
+    controller_at(p, q)
+}
+
+fn first_rank(p: &[u8], level: Level, k: usize) -> u16
+    requires { ⌜ Sized (length (now p)) level ⌝ }
+    ensures { λ r. ⌜ r ≡ firstRank (now (p .entry)) level k ⌝ }
+{
+    let q = k / level.power;
+    if !on_right(p, level.odd, q) {
+        return 0;
+    }
+    if safe_at(p, q) {
+        return 0;
+    }
+    1
+}
+
+fn first_round(p: &[u8], level: Level, ranks: &mut [u16])
+    requires { ⌜ (Sized (length (now p)) level) × (length (now ranks) ≡ level .nodes) ⌝ }
+    ensures { λ r. ⌜ now (ranks .exit) ≡ tabulate (firstRank (now (p .entry)) level) 0 (level .nodes) ⌝ }
+{
+    let mut k: usize = 0;
+    while k < level.nodes {
+        ranks[k] = first_rank(p, level, k);
+        k += 1;
+    }
+}
+
+// Does node k fall now, to the nodes of rank 1 to n?
+fn struck(
+    p: &[u8],
+    grid: &[[u16; 8]; 256],
+    u: &[u8],
+    firsts: &[u16; 257],
+    level: Level,
+    ranks: &[u16],
+    n: u16,
+    k: usize,
+) -> bool
+    requires { ⌜ (Sized (length (now p)) level) × (k < level .nodes) × (length (now ranks) ≡ level .nodes) ⌝ }
+    ensures { λ r. ⌜ r ≡ struckBy (arenaOf (now (p .entry)) (now (grid .entry)) (now (u .entry)) (now (firsts .entry)) level) n (now (ranks .entry)) k ⌝ }
+{
+    let rank = ranks[k];
+    if rank != 0 {
+        return false;
+    }
+    if !on_right(p, level.odd, k / level.power) {
+        return false;
+    }
+    doomed(p, grid, u, firsts, level, ranks, n, k)
+}
+
+// Round n + 1, after n rounds. A node struck now has rank n + 1, so it does not count as fallen until the next round. Says
+// whether a node fell.
+fn round(
+    p: &[u8],
+    grid: &[[u16; 8]; 256],
+    u: &[u8],
+    firsts: &[u16; 257],
+    level: Level,
+    ranks: &mut [u16],
+    n: u16,
+) -> bool
+    requires { ⌜ (Sized (length (now p)) level) × (length (now ranks) ≡ level .nodes) × (AtMost n (now ranks)) × (1 ≤ n) × (n < 65535) ⌝ }
+    ensures { λ r. ⌜ (now (ranks .exit) ≡ nextRanks (arenaOf (now (p .entry)) (now (grid .entry)) (now (u .entry)) (now (firsts .entry)) level) n (now (ranks .entry))) × (r ≡ anyBelow (strikes (arenaOf (now (p .entry)) (now (grid .entry)) (now (u .entry)) (now (firsts .entry)) level) n (now (ranks .entry))) (level .nodes)) ⌝ }
+{
+    let mut any = false;
+    let mut k: usize = 0;
+    while k < level.nodes {
+        if struck(p, grid, u, firsts, level, ranks, n, k) {
+            ranks[k] = n + 1;
+            any = true;
+        }
+        k += 1;
+    }
+    any
+}
+
+// All rounds, and their number: the last one in which a node fell, or round 1.
+pub fn rounds(
+    p: &[u8],
+    grid: &[[u16; 8]; 256],
+    u: &[u8],
+    firsts: &[u16; 257],
+    level: Level,
+    ranks: &mut [u16],
+) -> u16
+    requires { ⌜ (Sized (length (now p)) level) × (length (now ranks) ≡ level .nodes) ⌝ }
+    ensures { λ r. ⌜ (now (ranks .exit) ≡ finalRanks (arenaOf (now (p .entry)) (now (grid .entry)) (now (u .entry)) (now (firsts .entry)) level)) × (AtMost r (now (ranks .exit))) ⌝ }
+{
+    first_round(p, level, ranks);
+    let mut n: u16 = 1;
+    let last = loop {
+        if !round(p, grid, u, firsts, level, ranks, n) {
+            break n;
+        }
+        n += 1;
+    };
+    last
+}

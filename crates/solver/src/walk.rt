@@ -1,0 +1,217 @@
+// Which actions are spoilt at a node, and whether all are. What has fallen is given by marks and a number n: a node whose mark
+// is 1 to n counts as fallen. Nothing is asked of what the arrays hold.
+use crate::level::Level;
+use sheet::form::byte;
+use sheet::form::wide;
+use sheet::kinds::safe_at;
+ghost use mathlib.Core.Path.{_≡_};
+ghost use Prim.Native.Nat.{_≤_, _<_};
+ghost use lib.ListN.{length, getD};
+ghost use Rattle.theory.specs.Fold.{allBelow};
+ghost use Rattle.theory.specs.Rounds.{bad, spoiltBy};
+ghost use Rattle.sheet.specs.Meant.{unmark};
+ghost use Rattle.solver.specs.View.{cellAt, toAt, Sized, arenaOf};
+ghost use Rattle.solver.specs.Walks.{fallenBy, blockedAt, movesFrom, outcomeAt, Chosen};
+
+const ABSENT: usize = 256;
+
+// What choosing an action at a node leads to: the oldest action is played and rest is pending after it; the environment's moves
+// are on the lines from first to end; blocked where the action is spoilt before it moves.
+pub struct Choice {
+    pub blocked: bool,
+    pub action: usize,
+    pub rest: usize,
+    pub first: usize,
+    pub end: usize,
+}
+
+fn wide_mark(x: u16) -> usize
+    ensures { λ r. ⌜ (r ≡ x) × (x < 65536) ⌝ }
+{
+    x as usize
+}
+
+pub fn target(grid: &[[u16; 8]; 256], q: usize, x: usize) -> usize
+    ensures { λ r. ⌜ (unmark r ≡ cellAt (now (grid .entry)) q x) × (r < 65536) ⌝ }
+{
+    if 256 <= q {
+        return ABSENT;
+    }
+    if 8 <= x {
+        return ABSENT;
+    }
+    wide_mark(grid[q][x])
+}
+
+fn line_of(firsts: &[u16; 257], q: usize) -> usize
+    requires { ⌜ q < 257 ⌝ }
+    ensures { λ r. ⌜ (r ≡ getD (now (firsts .entry)) q 0) × (r < 65536) ⌝ }
+{
+    wide_mark(firsts[q])
+}
+
+fn fallen(marks: &[u16], n: u16, node: usize) -> bool
+    ensures { λ r. ⌜ r ≡ fallenBy n (now (marks .entry)) node ⌝ }
+{
+    if marks.len() <= node {
+        return false;
+    }
+    let mark = marks[node];
+    if mark == 0 {
+        return false;
+    }
+    mark <= n
+}
+
+fn blocked(action: usize, rest: usize) -> Choice
+    ensures { λ r. ⌜ r ≡ blockedAt action rest ⌝ }
+{
+    Choice {
+        blocked: true,
+        action,
+        rest,
+        first: 0,
+        end: 0,
+    }
+}
+
+// The environment moves from q.
+fn moves_from(firsts: &[u16; 257], action: usize, rest: usize, q: usize) -> Choice
+    requires { ⌜ q < 256 ⌝ }
+    ensures { λ r. ⌜ (r ≡ movesFrom (now (firsts .entry)) action rest q) × (r .end < 65536) ⌝ }
+{
+    Choice {
+        blocked: false,
+        action,
+        rest,
+        first: line_of(firsts, q),
+        end: line_of(firsts, q + 1),
+    }
+}
+
+// Action c joined to the pending word w, at position q.
+fn choose(
+    p: &[u8],
+    grid: &[[u16; 8]; 256],
+    firsts: &[u16; 257],
+    level: Level,
+    q: usize,
+    w: usize,
+    c: usize,
+) -> Choice
+    requires { ⌜ (Sized (length (now p)) level) × (q < 256) × (w < level .power) × (c < level .actions) ⌝ }
+    ensures { λ r. ⌜ Chosen (now (p .entry)) (now (grid .entry)) (now (firsts .entry)) level q w c r ⌝ }
+{
+    let joined = w * level.actions + c;
+    let action = joined / level.power;
+    let rest = joined % level.power;
+    if level.odd {
+        return moves_from(firsts, action, rest, q);
+    }
+    let reached = target(grid, q, action);
+    if reached == ABSENT {
+        return blocked(action, rest);
+    }
+    if !safe_at(p, reached) {
+        return blocked(action, rest);
+    }
+    moves_from(firsts, action, rest, reached)
+}
+
+// Does the environment's move on this line spoil the choice?
+fn spoils(
+    p: &[u8],
+    grid: &[[u16; 8]; 256],
+    u: &[u8],
+    level: Level,
+    marks: &[u16],
+    n: u16,
+    x: Choice,
+    line: usize,
+) -> bool
+    requires { ⌜ (level .power ≤ 65536) × (x .rest < level .power) × (line < 65536) ⌝ }
+    ensures { λ r. ⌜ r ≡ bad (fallenBy n (now (marks .entry))) (outcomeAt (now (p .entry)) (now (grid .entry)) level x (toAt (now (u .entry)) line)) ⌝ }
+{
+    let to = wide(byte(u, 2 * line + 1));
+    if !level.odd {
+        return fallen(marks, n, to * level.power + x.rest);
+    }
+    if !safe_at(p, to) {
+        return true;
+    }
+    let reached = target(grid, to, x.action);
+    if reached == ABSENT {
+        return true;
+    }
+    fallen(marks, n, reached * level.power + x.rest)
+}
+
+// Is action c spoilt at node k?
+pub fn spoilt(
+    p: &[u8],
+    grid: &[[u16; 8]; 256],
+    u: &[u8],
+    firsts: &[u16; 257],
+    level: Level,
+    marks: &[u16],
+    n: u16,
+    k: usize,
+    c: usize,
+) -> bool
+    requires { ⌜ (Sized (length (now p)) level) × (k < level .nodes) × (c < level .actions) ⌝ }
+    ensures { λ r. ⌜ r ≡ spoiltBy (arenaOf (now (p .entry)) (now (grid .entry)) (now (u .entry)) (now (firsts .entry)) level) (fallenBy n (now (marks .entry))) k c ⌝ }
+{
+    let x = choose(p, grid, firsts, level, k / level.power, k % level.power, c);
+    if x.blocked {
+        return true;
+    }
+    let mut line = x.first;
+    while line < x.end {
+        if spoils(p, grid, u, level, marks, n, x, line) {
+            return true;
+        }
+        line += 1;
+    }
+    false
+}
+
+// Is every action spoilt at node k? The inner loop leaves for the next action at the first spoiling line; an action whose lines
+// all pass ends the walk.
+pub fn doomed(
+    p: &[u8],
+    grid: &[[u16; 8]; 256],
+    u: &[u8],
+    firsts: &[u16; 257],
+    level: Level,
+    marks: &[u16],
+    n: u16,
+    k: usize,
+) -> bool
+    requires { ⌜ (Sized (length (now p)) level) × (k < level .nodes) ⌝ }
+    ensures { λ r. ⌜ r ≡ allBelow (spoiltBy (arenaOf (now (p .entry)) (now (grid .entry)) (now (u .entry)) (now (firsts .entry)) level) (fallenBy n (now (marks .entry))) k) (level .actions) ⌝ }
+{
+    let q = k / level.power;
+    let w = k % level.power;
+    let mut c: usize = 0;
+    let all = 'actions: loop {
+        if level.actions <= c {
+            break 'actions true;
+        }
+        let x = choose(p, grid, firsts, level, q, w, c);
+        c += 1;
+        if x.blocked {
+            continue 'actions;
+        }
+        let mut line = x.first;
+        'moves: loop {
+            if x.end <= line {
+                break 'actions false;
+            }
+            if spoils(p, grid, u, level, marks, n, x, line) {
+                break 'moves;
+            }
+            line += 1;
+        }
+    };
+    all
+}
