@@ -1,7 +1,7 @@
 -- What an accepted game sheet says: each check passed, its numbers are in their ranges, and the places that a reading carries are
 -- those of the bodies. Assumes nothing.
 use Prim.Native.Nat.{ℕ, zero, suc, _+_, _-_, _*_, _/_, _%_, _≤_, _<_}
-use mathlib.Core.Path.{_≡_, refl, sym}
+use mathlib.Core.Path.{_≡_, refl, sym, _∙_, ap}
 use mathlib.Core.Bool.{true}
 use mathlib.Core.List.{List}
 use native.Mathlib.Omega.{arith}
@@ -9,16 +9,19 @@ use lib.Dec.{lit<}
 use lib.ListN.{length, drop, length-drop}
 use lib.Seq.{length-take-le}
 use borrow.Author.Tests.{leb-true, eqb-true}
-use Rattle.theory.specs.Answer.{accepted}
+use Rattle.theory.specs.Answer.{refused, accepted}
 use Rattle.theory.specs.Delay.{arena, words}
 use Rattle.theory.proofs.Fold.{both-left, both-right, all-at}
 use Rattle.theory.proofs.Answer.{check-accepted}
 use Rattle.sheet.specs.Form.{offsetOf, lengthOf, placeOf, entryOk, contentsOk, placedAt, partAt, bodyOf}
 use Rattle.sheet.specs.Kinds.{controllerAt}
 use Rattle.sheet.specs.Checks.{positionsOk, headerOk, targetsOk, movesOk, allLeave, nodesOf, sizeOk}
-use Rattle.sheet.specs.Reading.{gameLetters, headerBody, positionsBody, targetsBody, movesBody, startOf, actionCount, delayOf, layoutOf, readAnswer}
+use Rattle.sheet.specs.Reading.{gameLetters, headerBody, positionsBody, targetsBody, movesBody, startOf, actionCount, delayOf, layoutOf, readAnswer, meaning, refusalNumber}
 use Rattle.sheet.specs.Meant.{gameOf}
+use Rattle.sheet.specs.declared.refusal.Refusal.{Refusal}
 use Rattle.sheet.specs.declared.reading.Layout.{Layout}
+use Rattle.sheet.specs.declared.reading.Reading.{Reading}
+use Rattle.sheet.specs.declared.reading.Reading.the-variants.{Accepted, Refused}
 
 -- the bodies of any sheet whose contents are right lie inside it whole
 
@@ -163,3 +166,12 @@ carries s l e = let r = read-is s l e in rw (r .1) (carries-own s (r .0 .content
 pub arena-nodes : (s : List ℕ) (d : ℕ) → arena (gameOf s) d .nodes ≡ nodesOf (length (positionsBody s)) (actionCount s) d
 unfolding arena words gameOf nodesOf
 arena-nodes s d = refl
+
+-- what a caller learns from the arm of a `match` or `let else` that it is in
+
+module _ (s : List ℕ) (r : Reading) (e : meaning r ≡ readAnswer s) where
+  pub read-accepted : (l : Layout) → r ≡ Accepted l → readAnswer s ≡ accepted l
+  read-accepted l f = sym e ∙ ap meaning f
+
+  pub read-refused : (x : Refusal) (n : ℕ) → r ≡ Refused x → n ≡ refusalNumber r → readAnswer s ≡ refused n
+  read-refused x n f g = sym e ∙ ap meaning f ∙ ap refused (sym (g ∙ ap refusalNumber f))

@@ -1,14 +1,17 @@
 -- The table of specs/Cases.antt holds, by computation from the definitions, and so does what the guess yard means. Assumes nothing.
+use Prim.Native.Nat.{_*_}
 use mathlib.Core.Path.{_≡_, refl}
 use mathlib.Core.Bool.{true, false}
 use mathlib.Core.List.{[], _∷_, map}
+use lib.ListN.{length}
 use Rattle.theory.specs.Fold.{both, either, allBelow, anyBelow, tabulate}
 use Rattle.theory.specs.Answer.{check}
 use Rattle.theory.specs.Game.{absent, to}
+use Rattle.sheet.specs.Limits.{width}
 use Rattle.sheet.specs.Form.{numberAt, entrySize, letterOf, offsetOf, lengthOf, placeOf, entryOk, contentsOk, placedAt, partAt, bodyOf}
 use Rattle.sheet.specs.Kinds.{kindOf, kindAt, isKnown, isController, isEnvironment, isSafe, knownAt, controllerAt, environmentAt, safeAt}
 use Rattle.sheet.specs.Checks.{positionsOk, headerOk, keyAt, risesAt, targetOk, targetsOk, moveOk, movesOk, beginsAt, hasLine, leavesAt, allLeave, nodesOf, sizeOk}
-use Rattle.sheet.specs.Reading.{startOf, actionCount, delayOf, layoutOf, readAnswer}
+use Rattle.sheet.specs.Reading.{gameLetters, startOf, actionCount, delayOf, layoutOf, readAnswer}
 use Rattle.sheet.specs.Meant.{isLine, targetIn, movesIn, targetOf, movesOf, gameOf}
 use Rattle.sheet.specs.Cases.{Case, guess, twoBytes, contentsFrom, sheetWith, guessS, guessP, guessC, guessU, loop, lines, star, layout, right, wrong, cases}
 
@@ -26,3 +29,8 @@ pub guess-means : record {
 }
 unfolding both tabulate numberAt entrySize offsetOf lengthOf placedAt partAt bodyOf kindOf kindAt isController isSafe controllerAt safeAt isLine targetIn movesIn targetOf movesOf gameOf guess
 guess-means = record { targets = refl; moves = refl; own = refl; safe = refl }
+
+-- "so 20 bytes of contents"
+pub contents-size : entrySize width * length gameLetters ≡ 20
+unfolding entrySize
+contents-size = refl

@@ -10,8 +10,7 @@ use lib.ListN.{length, getD}
 use borrow.Author.Needs.{needs}
 use borrow.Author.Tests.{le-leb, lt-leb, lt-ltb, le-ltb, eq-eqb, ne-eqb}
 use Rattle.theory.specs.Fold.{allBelow, anyBelow}
-use Rattle.theory.proofs.Fold.{both-true, both-false, either-left, all-none, all-done, any-none, any-holds, any-again, any-done}
-use Rattle.sheet.proofs.More.{both-none, both-second, either-second, failed, passed, all-next, all-stopped}
+use Rattle.theory.proofs.Fold.{both-true, both-false, either-left, all-none, all-done, any-none, any-holds, any-again, any-done, both-none, both-second, either-second, failed, passed, all-next, all-stopped}
 use Rattle.sheet.specs.Kinds.{controllerAt, environmentAt}
 use Rattle.sheet.specs.Checks.{headerOk, keyAt, risesAt, targetOk, targetsOk, moveOk, movesOk, beginsAt, hasLine, leavesAt, allLeave}
 

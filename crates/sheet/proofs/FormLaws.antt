@@ -12,8 +12,7 @@ use lib.Seq.{getD-drop, take-all, take-nil}
 use borrow.Author.Needs.{needs}
 use borrow.Author.Tests.{le-leb, lt-leb, eq-eqb, ne-eqb}
 use Rattle.theory.specs.Fold.{allBelow}
-use Rattle.theory.proofs.Fold.{both-true, both-false, all-none, all-fails, all-again}
-use Rattle.sheet.proofs.More.{both-none, both-second, take-rest}
+use Rattle.theory.proofs.Fold.{both-true, both-false, all-none, all-fails, all-again, both-none, both-second, take-rest}
 use Rattle.sheet.specs.Form.{numberAt, entrySize, letterOf, offsetOf, lengthOf, placeOf, entryOk, contentsOk, placedAt, partAt, bodyOf}
 use Rattle.sheet.specs.declared.form.Place.{Place}
 

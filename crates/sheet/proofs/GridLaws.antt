@@ -12,8 +12,7 @@ use lib.Seq.{getD-set-same, getD-set-other, ext-getD}
 use borrow.Author.Tests.{eq-eqb, ne-eqb, eqb-true, eqb-false}
 use Rattle.theory.specs.Fold.{tabulate}
 use Rattle.theory.specs.Game.{to}
-use Rattle.theory.proofs.Fold.{bool, both-true, both-false, length-tabulate, getD-tabulate, tabulate-same}
-use Rattle.sheet.proofs.More.{both-none}
+use Rattle.theory.proofs.Fold.{bool, both-true, both-false, length-tabulate, getD-tabulate, tabulate-same, both-none}
 use Rattle.sheet.specs.Meant.{isLine, targetIn, markOf, rowOf, gridAfter, gridOf}
 
 -- two numbers are the same or not

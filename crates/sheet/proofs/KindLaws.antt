@@ -7,8 +7,7 @@ use lib.ListN.{length, getD}
 use borrow.Author.Needs.{needs}
 use borrow.Author.Tests.{le-leb, lt-leb, lt-ltb, le-ltb, ne-eqb}
 use Rattle.theory.specs.Fold.{allBelow}
-use Rattle.theory.proofs.Fold.{both-true, both-false, all-none, all-done}
-use Rattle.sheet.proofs.More.{both-none, all-next, all-stopped}
+use Rattle.theory.proofs.Fold.{both-true, both-false, all-none, all-done, both-none, all-next, all-stopped}
 use Rattle.sheet.specs.Kinds.{kindOf, kindAt, isKnown, isController, isEnvironment, isSafe, knownAt, controllerAt, environmentAt, safeAt}
 use Rattle.sheet.specs.Checks.{positionsOk}
 use Rattle.sheet.specs.declared.kinds.Kind.{Kind}

@@ -11,12 +11,11 @@ use borrow.Author.Tests.{ltb-true, lt-ltb, le-ltb, eqb-true, eq-eqb, ne-eqb}
 use Rattle.theory.specs.Fold.{both}
 use Rattle.theory.specs.Answer.{accepted}
 use Rattle.theory.specs.Game.{Target, absent, to, Legal, LegalTarget, LegalMove}
-use Rattle.theory.proofs.Fold.{bool, not-both, both-true, both-left, both-right, all-at, any-some, below-cases, below?}
+use Rattle.theory.proofs.Fold.{bool, not-both, both-true, both-left, both-right, all-at, any-some, below-cases, below?, either-second}
 use Rattle.sheet.specs.Kinds.{kindAt, isController, isEnvironment, controllerAt, environmentAt}
 use Rattle.sheet.specs.Checks.{keyAt, targetOk, targetsOk, moveOk, movesOk, risesAt, beginsAt, hasLine, leavesAt, allLeave}
 use Rattle.sheet.specs.Reading.{positionsBody, targetsBody, movesBody, startOf, actionCount, readAnswer}
 use Rattle.sheet.specs.Meant.{isLine, targetIn, targetOf, movesIn, movesOf, gameOf, markOf, unmark, gridOf, targetAt}
-use Rattle.sheet.proofs.More.{either-second}
 use Rattle.sheet.proofs.GridLaws.{target-next, cell-at, row-at}
 use Rattle.sheet.proofs.Accepted.{Read, read-is, ranges}
 use Rattle.sheet.specs.declared.kinds.Kind.{Kind}

@@ -1,5 +1,4 @@
 -- Laws of the definitions of specs/, on which the proofs of the functions rest.
-pub mod More
 pub mod FormLaws
 pub mod KindLaws
 pub mod CheckLaws

@@ -9,8 +9,7 @@ use borrow.Author.Needs.{needs}
 use borrow.Author.Tests.{leb-true}
 use Rattle.theory.specs.Answer.{Answer, refused, accepted, check}
 use Rattle.theory.proofs.Answer.{check-passed}
-use Rattle.theory.proofs.Fold.{both-left, both-right}
-use Rattle.sheet.proofs.More.{failed, passed}
+use Rattle.theory.proofs.Fold.{both-left, both-right, failed, passed}
 use Rattle.sheet.specs.Form.{contentsOk, placedAt, bodyOf}
 use Rattle.sheet.specs.Checks.{positionsOk, headerOk, targetsOk, movesOk, allLeave, sizeOk}
 use Rattle.sheet.specs.Refusals.{numberOf}

@@ -9,6 +9,9 @@ module _ {A : Type 0} where
   pub refused-not-accepted : {n : ℕ} {x : A} → refused n ≡ accepted x → ⊥
   refused-not-accepted e = let z : _≡_ {A = ℕ} 0 1 = cc in omega arith
 
+  pub accepted-same : {x y : A} → accepted x ≡ accepted y → x ≡ y
+  accepted-same e = cc
+
   pub check-passed : (b : Bool) (n : ℕ) (rest : Answer A) → b ≡ true → check b n rest ≡ rest
   unfolding check
   check-passed b n rest e = rw e

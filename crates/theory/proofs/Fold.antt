@@ -1,16 +1,16 @@
 -- Laws of specs/Fold.antt: tests, folds over indices, tabulated lists. Assumes nothing.
-use Prim.Native.Nat.{ℕ, zero, suc, _+_, _≤_, _<_}
+use Prim.Native.Nat.{ℕ, zero, suc, _+_, _-_, _≤_, _<_}
 use mathlib.Core.Path.{_≡_, refl, sym, _∙_, ap}
-use mathlib.Core.Bool.{Bool, true, false, cond, true≢false, false≢true}
+use mathlib.Core.Bool.{Bool, true, false, not, cond, true≢false, false≢true}
 use mathlib.Core.Logic.{_⊎_, inl, inr, ⊎-elim}
-use mathlib.Core.List.{List, [], _∷_, List·Memᴰ, List·Memᴰ·head, List·Memᴰ·tail, List·Memᴰ·cases-cons, List·Memᴰ·not-nil}
+use mathlib.Core.List.{List, [], _∷_, map, List·Memᴰ, List·Memᴰ·head, List·Memᴰ·tail, List·Memᴰ·cases-cons, List·Memᴰ·not-nil}
 use native.Mathlib.Omega.{arith}
-use native.Mathlib.Nat.{eq-or-lt-of-le, le-of-suc-le-suc}
+use native.Mathlib.Nat.{eq-or-lt-of-le, le-of-suc-le-suc, le-refl}
 use native.Mathlib.Numerals.{add-one}
 use lib.Dec.{ltb}
-use lib.ListN.{length, getD, List·getD-eq-default}
-use lib.Seq.{ext-getD}
-use borrow.Author.Tests.{ltb-true, ltb-false}
+use lib.ListN.{length, getD, take, drop, length-drop, List·getD-eq-default}
+use lib.Seq.{ext-getD, take-all}
+use borrow.Author.Tests.{ltb-true, ltb-false, not-true, not-false}
 use Rattle.theory.specs.Fold.{both, either, allBelow, anyBelow, firstNot, anyOf, tabulate}
 
 -- a test passes or fails
@@ -46,6 +46,15 @@ unfolding both
 both-false true b e = e
 both-false false b e = refl
 
+pub both-none : (a b : Bool) → a ≡ false → both a b ≡ false
+unfolding both
+both-none a b e = rw e
+
+-- where the first passes, the second decides
+pub both-second : (a b : Bool) → a ≡ true → both a b ≡ b
+unfolding both
+both-second a b e = rw e
+
 pub either-left : (a b : Bool) → a ≡ true → either a b ≡ true
 unfolding either
 either-left a b p = rw p
@@ -73,6 +82,26 @@ pub either-none-right : (a b : Bool) → either a b ≡ false → b ≡ false
 unfolding either
 either-none-right true b e = absurd (true≢false e)
 either-none-right false b e = e
+
+pub either-second : (a b : Bool) → a ≡ false → either a b ≡ b
+unfolding either
+either-second a b e = rw e
+
+pub either-first : (a b : Bool) → b ≡ false → either a b ≡ a
+unfolding either
+either-first true b e = refl
+either-first false b e = e
+
+pub not-not : (b : Bool) → not (not b) ≡ b
+not-not true = refl
+not-not false = refl
+
+-- what a test's result r says of b, as a branch on `!r` finds it
+pub failed : {r b : Bool} → r ≡ b → not r ≡ true → b ≡ false
+failed {r} e f = sym e ∙ not-true r f
+
+pub passed : {r b : Bool} → r ≡ b → not r ≡ false → b ≡ true
+passed {r} e f = sym e ∙ not-false r f
 
 -- every index below n
 
@@ -111,6 +140,22 @@ all-fails p i n h e =
 -- one index more, as a loop's next turn finds it: r is the test's result at i, and it passed
 pub all-again : (p : ℕ → Bool) (i : ℕ) {r : Bool} → allBelow p i ≡ true → r ≡ p i → r ≡ true → allBelow p (i + 1) ≡ true
 all-again p i e q t = rw (add-one i, all-suc p i) (both-true _ _ e (sym q ∙ t))
+
+-- the same where the branch is on `!r`, and the test that failed
+pub all-next : (p : ℕ → Bool) (i : ℕ) {r : Bool} → allBelow p i ≡ true → r ≡ p i → not r ≡ false → allBelow p (i + 1) ≡ true
+all-next p i {r} e q t = all-again p i e q (not-false r t)
+
+pub all-stopped : (p : ℕ → Bool) (i n : ℕ) {r : Bool} → i < n → r ≡ p i → not r ≡ true → allBelow p n ≡ false
+all-stopped p i n h q t = all-fails p i n h (failed q t)
+
+-- a shorter range that fails fails the longer one
+pub all-short : (p : ℕ → Bool) {c n : ℕ} → c ≤ n → allBelow p c ≡ false → allBelow p n ≡ false
+all-short p {c} {n} l e =
+    ⊎-elim
+    (λ (t : allBelow p n ≡ true).
+    absurd (not-both (all-below p c (λ i h. all-at p n t i (omega arith))) e))
+    (λ f. f)
+    (bool (allBelow p n))
 
 -- the loop is over
 pub all-done : (p : ℕ → Bool) {k n : ℕ} → k ≤ n → n ≤ k → allBelow p k ≡ true → allBelow p n ≡ true
@@ -243,6 +288,13 @@ module _ {A : Type 0} (p : A → Bool) where
       (λ (t : anyOf p ys ≡ true). let r = any-of-some ys t in (r .0, List·Memᴰ·tail (r .1), r .2))
       (either-cases _ _ (rw (any-of-cons y ys) at e))
 
+pub any-of-map : {A B : Type 0} (p : B → Bool) (f : A → B) (xs : List A) → anyOf p (map f xs) ≡ anyOf (λ x. p (f x)) xs
+any-of-map p f [] = any-of-nil p ∙ sym (any-of-nil (λ x. p (f x)))
+any-of-map p f (x ∷ xs) =
+    any-of-cons p (f x) (map f xs)
+    ∙ ap (either (p (f x))) (any-of-map p f xs)
+    ∙ sym (any-of-cons (λ y. p (f y)) x xs)
+
 -- tabulated lists
 
 module _ {A : Type 0} where
@@ -279,6 +331,19 @@ module _ {A : Type 0} where
       (λ k l.
       let m : k < n = rw (length-tabulate f 0 n) at l in
       getD-tabulate f n k a m ∙ h k m ∙ sym (getD-tabulate g n k a m))
+
+  -- a range of a tabulated list that is over, and one that goes on
+  pub tabulate-none : (f : ℕ → A) (i e : ℕ) → e ≤ i → tabulate f i (e - i) ≡ []
+  tabulate-none f i e h = let q : e - i ≡ 0 = omega arith in rw q (tabulate-zero f i)
+
+  pub tabulate-next : (f : ℕ → A) (i e : ℕ) → i < e → tabulate f i (e - i) ≡ f i ∷ tabulate f (i + 1) (e - (i + 1))
+  tabulate-next f i e h =
+      let q : e - i ≡ suc (e - (i + 1)) = omega arith in
+      rw (q, tabulate-suc f i (e - (i + 1)), add-one i)
+
+-- the rest of a list, as a part of a slice without an end is lent
+pub take-rest : (l : List ℕ) (n : ℕ) → take (length l - n) (drop n l) ≡ drop n l
+take-rest l n = take-all (length l - n) (drop n l) (rw (length-drop n l) (le-refl (length l - n)))
 
 -- how many indices below n pass a test
 unfoldable pub count : (ℕ → Bool) → ℕ → ℕ

@@ -1,5 +1,5 @@
 -- `sheet::reading::check_lines` meets its contract, by the laws of proofs/ReadLaws.antt. Assumes nothing.
-use Rattle.sheet.proofs.More.{passed}
+use Rattle.theory.proofs.Fold.{passed}
 use Rattle.sheet.proofs.ReadLaws.{checks-lines, accepts}
 use Rattle.sheet.proofs.reading.check_lines.Statement.{statement}
 use Rattle.sheet.proofs.reading.check_lines.Tie as tie
