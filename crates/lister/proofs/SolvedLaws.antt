@@ -15,10 +15,8 @@ use Rattle.theory.proofs.Region.{length-masks}
 use Rattle.theory.proofs.Waiting.{answer-least}
 use Rattle.sheet.specs.Checks.{nodesOf}
 use Rattle.sheet.specs.Reading.{readAnswer, delayOf}
-use Rattle.sheet.specs.Reading as reading
 use Rattle.sheet.specs.Meant.{gameOf}
 use Rattle.sheet.specs.declared.reading.Layout.{Layout}
-use Rattle.sheet.specs.declared.reading.Reading.the-variants.{Refused}
 use Rattle.sheet.proofs.Accepted.{read-is, ranges, carries, arena-nodes}
 use Rattle.sheet.proofs.Legality.{legal-game}
 use Rattle.text.specs.Page.{Page, puts}
