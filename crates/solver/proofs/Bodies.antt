@@ -1,19 +1,19 @@
 -- The bodies of an accepted sheet fill arrays whose game is the sheet's. Assumes nothing.
 use Prim.Native.Nat.{ℕ, zero, suc, _+_, _-_, _*_, _/_, _≤_, _<_}
 use mathlib.Core.Path.{_≡_, refl, sym, _∙_, ap, fun-ext}
-use mathlib.Core.Bool.{Bool, true, false, cond}
+use mathlib.Core.Bool.{true, false}
 use mathlib.Core.Logic.{⊎-elim}
 use mathlib.Core.List.{List, [], _∷_, _++_, append-nil, List·Memᴰ, List·Memᴰ·head}
 use native.Mathlib.Omega.{arith}
 use lib.Dec.{eqb, ltb}
 use lib.ListN.{length, getD}
-use borrow.Author.Tests.{lt-ltb, le-ltb, ltb-true, ltb-false, eq-eqb, ne-eqb, eqb-true}
-use Rattle.theory.specs.Fold.{both, allBelow, firstNot, tabulate}
-use Rattle.theory.specs.Game.{Target, Game, Legal}
-use Rattle.theory.proofs.Fold.{bool, below?, not-both, both-left, both-right, all-at, all-none, first, first-suc, tabulate-zero, tabulate-suc, getD-tabulate, getD-tabulate-out}
+use borrow.Author.Tests.{ltb-true, ltb-false, eq-eqb, ne-eqb}
+use Rattle.theory.specs.Fold.{both, allBelow, tabulate}
+use Rattle.theory.specs.Game.{Target, Game}
+use Rattle.theory.proofs.Fold.{bool, below?, both-left, both-right, all-at, first, first-suc, tabulate-zero, tabulate-suc, getD-tabulate, getD-tabulate-out}
 use Rattle.sheet.specs.Kinds.{controllerAt, safeAt}
 use Rattle.sheet.specs.Reading.{positionsBody, targetsBody, movesBody, startOf, actionCount}
-use Rattle.sheet.specs.Meant.{movesIn, movesOf, gameOf, markOf, rowOf, gridAfter, gridOf, unmark, targetAt, targetIn}
+use Rattle.sheet.specs.Meant.{movesIn, movesOf, gameOf, markOf, rowOf, gridOf, targetAt, targetIn}
 use Rattle.sheet.proofs.GridLaws.{row-at}
 use Rattle.sheet.proofs.Accepted.{Read, ranges}
 use Rattle.sheet.proofs.Legality.{legal, target-read, moves-ordered}

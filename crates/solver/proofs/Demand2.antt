@@ -2,7 +2,7 @@
 -- the game that the sheet means, by Definition 5's strategies. `solve` is proved to give `solveAnswer`, `masksAfter` and `ranksLeft`
 -- (src/solve.rt); the rest is theory. Assumes nothing.
 use Prim.Native.Nat.{ℕ, suc, _+_, _-_, _≤_, _<_}
-use mathlib.Core.Path.{_≡_, refl, sym, _∙_, ap}
+use mathlib.Core.Path.{_≡_, sym, _∙_, ap}
 use mathlib.Core.Bool.{true, false}
 use mathlib.Core.List.{List, _++_, List·Memᴰ}
 use mathlib.Core.Logic.{_↔_}
@@ -10,7 +10,7 @@ use native.Mathlib.Omega.{arith}
 use lib.ListN.{length, getD, drop, List·getD-append}
 use lib.Seq.{getD-append-add, getD-drop}
 use borrow.Author.Tests.{le-leb}
-use Rattle.theory.specs.Answer.{accepted, check, onAccepted}
+use Rattle.theory.specs.Answer.{accepted, onAccepted}
 use Rattle.theory.specs.Game.{Game, Legal, Target, to}
 use Rattle.theory.specs.Strategy.{Winnable}
 use Rattle.theory.specs.Rounds.{fell, ranksAfter, finalRanks, masks, kept}
@@ -19,7 +19,7 @@ use Rattle.theory.specs.Table.{bit, allows, ours}
 use Rattle.theory.proofs.Fold.{both-true}
 use Rattle.theory.proofs.Answer.{check-passed, check-accepted, accepted-on}
 use Rattle.theory.proofs.Rounds.{final-length, final-round}
-use Rattle.theory.proofs.Region.{Closed, kept-is, kept-right, region-closed, region-largest, length-masks}
+use Rattle.theory.proofs.Region.{Closed, kept-is, region-closed, region-largest, length-masks}
 use Rattle.theory.proofs.Tables.{step-legal}
 use Rattle.theory.proofs.Ours.{allows-keeps}
 use Rattle.theory.proofs.Waiting.{answer-iff, answer-least}
@@ -52,7 +52,7 @@ pub record Least (G : Game) (asked m : ℕ) : Type 0 where
   pub below : (j : ℕ) → j < m → Winnable G j
 
 -- the table and the ranks that two buffers hold for delay d
-pub record Table (G : Game) (d : ℕ) (mask-buffer rank-buffer masks-now ranks-now : List ℕ) : Type 0 where
+pub record Table (G : Game) (d : ℕ) (mask-buffer rank-buffer masks-now ranks-now : List ℕ) : Type 1 where
   -- the kept nodes are the largest winning set
   pub kept-wins : WinningSet G d (Kept G d)
   pub kept-largest : (S : ℕ → Type 0) → WinningSet G d S → (k : ℕ) → arena G d .right k ≡ true → S k → Kept G d k
@@ -64,7 +64,7 @@ pub record Table (G : Game) (d : ℕ) (mask-buffer rank-buffer masks-now ranks-n
   pub masks-beyond : (k : ℕ) → arena G d .nodes ≤ k → getD masks-now k 0 ≡ getD mask-buffer k 0
   pub ranks-beyond : (k : ℕ) → arena G d .nodes ≤ k → getD ranks-now k 0 ≡ getD rank-buffer k 0
 
-pub record Demand2 (s : List ℕ) (a : Solved) (mask-buffer rank-buffer : List ℕ) : Type 0 where
+pub record Demand2 (s : List ℕ) (a : Solved) (mask-buffer rank-buffer : List ℕ) : Type 1 where
   pub winning : (a .verdict ≡ wins) ↔ Winnable (gameOf s) (delayOf s)
   pub losing : (m : ℕ) → a .verdict ≡ losing m → Least (gameOf s) (delayOf s) m
   -- for the asked delay where it wins, else for m

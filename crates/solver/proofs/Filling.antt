@@ -1,14 +1,13 @@
 -- A list that a loop fills from the front, and its laws. Assumes nothing.
-use Prim.Native.Nat.{ℕ, zero, suc, _+_, _-_, _≤_, _<_}
-use mathlib.Core.Path.{_≡_, refl, sym, _∙_, ap}
-use mathlib.Core.List.{List, [], _∷_, _++_, append-nil}
+use Prim.Native.Nat.{ℕ, _+_, _-_, _≤_, _<_}
+use mathlib.Core.Path.{_≡_, sym, _∙_, ap}
+use mathlib.Core.List.{List, _++_, append-nil}
 use mathlib.Core.Logic.{⊎-elim}
 use native.Mathlib.Omega.{arith}
-use native.Mathlib.Numerals.{add-one}
 use lib.ListN.{length, getD, drop, set, length-append, length-drop, length-set, drop-of-length-le, List·getD-append}
 use lib.Seq.{getD-drop, getD-append-add, getD-set-same, getD-set-other, ext-getD}
 use Rattle.theory.specs.Fold.{tabulate}
-use Rattle.theory.proofs.Fold.{below?, length-tabulate, getD-tabulate, tabulate-zero, tabulate-suc}
+use Rattle.theory.proofs.Fold.{below?, length-tabulate, getD-tabulate, tabulate-zero}
 
 -- l with its first k entries replaced by f 0, f 1, ..
 unfoldable pub filled : (ℕ → ℕ) → ℕ → List ℕ → List ℕ

@@ -1,19 +1,18 @@
 -- The flags of first words, as the code of src/words.rt writes them, and that by the final ranks they are theory's. Assumes nothing.
-use Prim.Native.Nat.{ℕ, zero, suc, _+_, _-_, _/_, _^_, _≤_, _<_}
+use Prim.Native.Nat.{ℕ, _+_, _≤_, _<_}
 use mathlib.Core.Path.{_≡_, refl, sym, _∙_, ap, fun-ext}
 use mathlib.Core.Bool.{Bool, true, false, cond}
-use mathlib.Core.List.{List, [], _++_}
+use mathlib.Core.List.{List, _++_}
 use native.Mathlib.Omega.{arith}
-use lib.Dec.{leb}
-use lib.ListN.{length, getD, take, drop, set, length-append, length-drop}
+use lib.ListN.{length, take, drop, set, length-append, length-drop}
 use lib.Seq.{getD-take, length-take-le}
 use borrow.Author.Needs.{needs}
 use borrow.Author.Tests.{le-leb, lt-leb}
 use Rattle.theory.specs.Fold.{tabulate}
-use Rattle.theory.specs.Answer.{Answer, refused, accepted}
+use Rattle.theory.specs.Answer.{accepted}
 use Rattle.theory.specs.Game.{Game, Legal}
 use Rattle.theory.specs.Rounds.{fell, kept, finalRanks}
-use Rattle.theory.specs.Delay.{words, initialWords, arena, goodFrom, goodWith, flags}
+use Rattle.theory.specs.Delay.{initialWords, arena, goodWith, flags}
 use Rattle.theory.proofs.Fold.{same-test, tabulate-zero, tabulate-same, length-tabulate}
 use Rattle.theory.proofs.Tables.{good-more}
 use Rattle.sheet.specs.Form.{partAt}

@@ -1,5 +1,5 @@
 -- Good first words, as the code of src/words.rt finds them, and that they are theory's. Assumes nothing.
-use Prim.Native.Nat.{ℕ, zero, suc, _+_, _*_, _/_, _%_, _^_, _≤_, _<_}
+use Prim.Native.Nat.{ℕ, _+_, _*_, _/_, _%_, _^_, _≤_, _<_}
 use mathlib.Core.Path.{_≡_, refl, sym, _∙_, ap, fun-ext}
 use mathlib.Core.Bool.{Bool, true, false, not}
 use mathlib.Core.List.{List}
@@ -10,12 +10,12 @@ use mir.Syntax.{w64}
 use lib.Dec.{eqb}
 use lib.ListN.{length, getD, List·getD-eq-default}
 use borrow.Author.Needs.{needs}
-use borrow.Author.Tests.{eq-eqb, not-true, not-false}
+use borrow.Author.Tests.{not-true, not-false}
 use Rattle.theory.specs.Fold.{both, anyBelow}
 use Rattle.theory.specs.Game.{Game}
 use Rattle.theory.specs.Rounds.{fell, finalRanks, kept}
 use Rattle.theory.specs.Delay.{odd, words, onRight, arena, keptAt, goodBy, goodFrom, goodWith, winning, initialWords}
-use Rattle.theory.proofs.Fold.{both-true, both-false, any-none, any-holds, any-again, any-done}
+use Rattle.theory.proofs.Fold.{both-true, any-none, any-holds, any-again, any-done}
 use Rattle.sheet.specs.Kinds.{safeAt}
 use Rattle.sheet.specs.Meant.{unmark}
 use Rattle.solver.specs.declared.level.Level.{Level}

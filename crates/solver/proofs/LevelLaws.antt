@@ -1,25 +1,22 @@
 -- The numbers of one delay (src/level.rt), and the arena of the arrays at them: it is theory's. Assumes nothing.
-use Prim.Native.Nat.{ℕ, zero, suc, _+_, _*_, _/_, _%_, _^_, _≤_, _<_}
-use mathlib.Core.Path.{_≡_, refl, sym, _∙_, ap}
-use mathlib.Core.Bool.{Bool, true, false}
+use Prim.Native.Nat.{ℕ, suc, _*_, _/_, _%_, _^_, _≤_}
+use mathlib.Core.Path.{_≡_, refl, _∙_}
+use mathlib.Core.Bool.{true, false}
 use mathlib.Core.Logic.{⊎-elim}
 use mathlib.Core.List.{List}
 use native.Mathlib.Omega.{arith}
 use native.Mathlib.Nat.{mul-le-mul-left, mul-le-mul-right, pow-le-pow-right, pow-suc, one-le-pow}
 use mir.Val.{Fits}
 use mir.Syntax.{w64}
-use lib.Dec.{eqb, leb}
+use lib.Dec.{eqb}
 use lib.ListN.{length}
 use borrow.Author.Needs.{needs}
 use borrow.Author.Tests.{le-leb}
-use Rattle.theory.specs.Rounds.{Arena}
 use Rattle.theory.specs.Strategy.{initialLength}
-use Rattle.theory.specs.Game.{Game}
 use Rattle.theory.specs.Delay.{odd, words, initialWords, step, arena}
 use Rattle.theory.proofs.Fold.{bool}
 use Rattle.theory.proofs.Pending.{odd-delay, even-delay}
 use Rattle.sheet.specs.Checks.{nodesOf, powerTo}
-use Rattle.solver.specs.declared.level.Level.{Level}
 use Rattle.solver.specs.View.{viewOf, levelArena, arenaOf, Sized, Room, levelAt}
 use Rattle.solver.specs.Strikes.{wordsOn, firstWords}
 

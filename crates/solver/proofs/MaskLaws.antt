@@ -1,5 +1,5 @@
 -- The masks, as the code of src/masks.rt makes them, and that they are theory's. Assumes nothing.
-use Prim.Native.Nat.{ℕ, zero, suc, _+_, _*_, _/_, _^_, _≤_, _<_}
+use Prim.Native.Nat.{ℕ, _+_, _*_, _^_, _≤_, _<_}
 use mathlib.Core.Path.{_≡_, refl, sym, _∙_, ap, fun-ext}
 use mathlib.Core.Bool.{Bool, true, false, not, cond}
 use mathlib.Core.Logic.{⊎-elim}
@@ -9,13 +9,12 @@ use native.Mathlib.Nat.{pow-suc}
 use native.Mathlib.Numerals.{add-one}
 use mir.Val.{Fits}
 use mir.Syntax.{w8, w64}
-use lib.Dec.{eqb, ltb, leb}
 use lib.Pow.{pow-mono}
 use lib.ListN.{length, getD, set}
 use borrow.Author.Needs.{needs}
 use borrow.Author.Tests.{eq-eqb, ne-eqb, lt-ltb, le-ltb, le-leb, not-true, not-false}
-use Rattle.theory.specs.Fold.{both, tabulate}
-use Rattle.theory.specs.Rounds.{Arena, spoiltBy, fell, kept, maskBelow, maskAt, masksBy}
+use Rattle.theory.specs.Fold.{tabulate}
+use Rattle.theory.specs.Rounds.{Arena, spoiltBy, fell, maskBelow, maskAt, masksBy}
 use Rattle.theory.proofs.Fold.{below?}
 use Rattle.theory.proofs.Masks.{mask-lt}
 use Rattle.solver.specs.declared.level.Level.{Level}
@@ -23,7 +22,7 @@ use Rattle.solver.specs.View.{viewOf, levelArena, arenaOf, Sized}
 use Rattle.solver.specs.Walks.{fallenBy, allowedIn}
 use Rattle.solver.specs.Strikes.{keptIn, AtMost}
 use Rattle.solver.proofs.More.{both-none, both-second}
-use Rattle.solver.proofs.Filling.{filled, filled-none, filled-more, filled-done, length-filled}
+use Rattle.solver.proofs.Filling.{filled, filled-none, filled-more, filled-done}
 use Rattle.solver.proofs.GoodLaws.{kept-is}
 
 -- where no rank is over n, fallen in rounds 1 to n is fallen

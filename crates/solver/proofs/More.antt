@@ -1,17 +1,16 @@
 -- Laws on tests, folds and lists that are no part of solving. Assumes nothing.
-use Prim.Native.Nat.{ℕ, zero, suc, _+_, _-_, _*_, _/_, _%_, _≤_, _<_}
+use Prim.Native.Nat.{ℕ, suc, _+_, _-_, _*_, _≤_, _<_}
 use mathlib.Core.Path.{_≡_, refl, sym, _∙_, ap}
 use mathlib.Core.Bool.{Bool, true, false, not}
-use mathlib.Core.List.{List, [], _∷_, _++_, map}
+use mathlib.Core.List.{List, [], _∷_, map}
 use mathlib.Core.Logic.{⊎-elim}
 use native.Mathlib.Omega.{arith}
 use native.Mathlib.Numerals.{add-one}
 use mir.Val.{Fits}
 use mir.Syntax.{w64}
 use native.Mathlib.Nat.{mul-le-mul}
-use lib.ListN.{length, getD, drop, set, length-append, length-drop}
-use Rattle.theory.specs.Fold.{both, either, allBelow, anyBelow, anyOf, tabulate}
-use Rattle.theory.proofs.Fold.{bool, not-both, all-at, all-below, all-suc, any-of-nil, any-of-cons, tabulate-zero, tabulate-suc, length-tabulate}
+use Rattle.theory.specs.Fold.{both, either, allBelow, anyOf, tabulate}
+use Rattle.theory.proofs.Fold.{bool, not-both, all-at, all-below, any-of-nil, any-of-cons, tabulate-zero, tabulate-suc}
 
 pub both-none : (a b : Bool) → a ≡ false → both a b ≡ false
 unfolding both

@@ -1,17 +1,15 @@
 -- The index of first lines (specs/View.antt). Assumes nothing.
-use Prim.Native.Nat.{ℕ, zero, suc, _+_, _-_, _*_, _/_, _≤_, _<_}
-use mathlib.Core.Path.{_≡_, refl, sym, _∙_, ap}
-use mathlib.Core.Bool.{Bool, true, false, cond}
+use Prim.Native.Nat.{ℕ, suc, _+_, _*_, _/_, _≤_, _<_}
+use mathlib.Core.Path.{_≡_, refl, sym, _∙_}
+use mathlib.Core.Bool.{true, false}
 use mathlib.Core.List.{List}
 use mathlib.Core.Logic.{⊎-elim}
 use native.Mathlib.Omega.{arith}
-use native.Mathlib.Numerals.{add-one}
-use lib.Dec.{ltb}
 use lib.ListN.{length, getD}
 use borrow.Author.Needs.{needs}
 use borrow.Author.Tests.{ltb-true, lt-ltb, le-ltb}
 use Rattle.theory.specs.Fold.{allBelow, firstNot}
-use Rattle.theory.proofs.Fold.{bool, all-none, all-at, all-below, all-fails, all-again, First, first, first-suc, first-unique}
+use Rattle.theory.proofs.Fold.{bool, all-none, all-at, all-below, all-fails, all-again, first, first-suc, first-unique}
 use Rattle.solver.specs.View.{fromBelow, firstLine, firstsOf}
 use Rattle.solver.proofs.Filling.{filled, filled-none, filled-more, filled-done}
 

@@ -1,8 +1,8 @@
 -- One round in place, and all rounds (specs/Strikes.antt). A node struck in a round counts as fallen only in the next, since its
 -- rank is over n; so the half-updated list and the list at the round's start say the same. Assumes nothing.
-use Prim.Native.Nat.{ℕ, zero, suc, _+_, _-_, _*_, _/_, _%_, _≤_, _<_}
+use Prim.Native.Nat.{ℕ, zero, suc, _+_, _*_, _/_, _≤_, _<_}
 use mathlib.Core.Path.{_≡_, refl, sym, _∙_, ap, fun-ext}
-use mathlib.Core.Bool.{Bool, true, false, not, cond}
+use mathlib.Core.Bool.{Bool, true, false, not}
 use mathlib.Core.List.{List}
 use mathlib.Core.Logic.{_⊎_, ⊎-elim}
 use native.Mathlib.Omega.{arith}
@@ -15,8 +15,8 @@ use borrow.Author.Tests.{eq-eqb, ne-eqb, lt-ltb, le-ltb, le-leb, lt-leb, not-tru
 use Rattle.theory.specs.Fold.{both, allBelow, anyBelow, tabulate}
 use Rattle.theory.specs.Rounds.{Arena, spoiltBy, fell, falls, rankIn, ranksAfter, finalRanks}
 use Rattle.theory.specs.Delay.{onRight}
-use Rattle.theory.proofs.Fold.{bool, below?, both-true, both-left, both-right, both-false, any-none, any-suc, either-left, either-right, tabulate-same, length-tabulate, getD-tabulate, any-below-none, any-some, not-both, count, count-le, count-less}
-use Rattle.theory.proofs.Rounds.{rank-zero, rank-le, length-after, stays-fallen, fell-true, fell-false, fell-rank, stood-rank, in-fallen, in-struck, in-stands, after-suc, final-is}
+use Rattle.theory.proofs.Fold.{bool, below?, both-true, both-left, both-right, both-false, any-none, any-suc, either-right, tabulate-same, length-tabulate, getD-tabulate, any-below-none, any-some, not-both, count, count-le, count-less}
+use Rattle.theory.proofs.Rounds.{rank-zero, rank-le, length-after, stays-fallen, fell-true, fell-false, stood-rank, in-fallen, in-struck, in-stands, after-suc, final-is}
 use Rattle.sheet.specs.Kinds.{controllerAt, safeAt}
 use Rattle.solver.specs.declared.level.Level.{Level}
 use Rattle.solver.specs.View.{viewOf, levelArena, arenaOf}
@@ -128,9 +128,9 @@ fallen-all n ranks most =
     (λ k.
     fallen-is n ranks k
     ∙ ⊎-elim
-      (λ (h : 0 < getD ranks k 0). within-some n _ h (most k) ∙ sym (fell-true ranks k h))
-      (λ (h : getD ranks k 0 ≤ 0). within-zero n _ (omega arith) ∙ sym (fell-false ranks k (omega arith)))
-      (below? 0 (getD ranks k 0)))
+    (λ (h : 0 < getD ranks k 0). within-some n _ h (most k) ∙ sym (fell-true ranks k h))
+    (λ (h : getD ranks k 0 ≤ 0). within-zero n _ (omega arith) ∙ sym (fell-false ranks k (omega arith)))
+    (below? 0 (getD ranks k 0)))
 
 stands-is : (ranks : List ℕ) (k : ℕ) → eqb (getD ranks k 0) 0 ≡ not (fell ranks k)
 unfolding fell
@@ -164,9 +164,9 @@ module _ (E : Arena) (n : ℕ) (old : List ℕ) where
       (λ j.
       fallen-is n (filled (rankIn E n old) k old) j
       ∙ ⊎-elim
-        (λ (h : j < k). ap (within n) (filled-below (rankIn E n old) old k j h) ∙ rank-within j)
-        (λ (h : k ≤ j). ap (within n) (filled-above (rankIn E n old) old k j h))
-        (below? j k)
+      (λ (h : j < k). ap (within n) (filled-below (rankIn E n old) old k j h) ∙ rank-within j)
+      (λ (h : k ≤ j). ap (within n) (filled-above (rankIn E n old) old k j h))
+      (below? j k)
       ∙ sym (fallen-is n old j))
 
   -- the half-updated list strikes what the old one does
@@ -330,6 +330,7 @@ module _ (E : Arena) (n : ℕ) {ranks : List ℕ} (e : ranks ≡ ranksAfter E n)
           let q : getD now k 0 ≡ rankIn E n ranks k = ap (λ (l : List ℕ). getD l k 0) d ∙ next-at E n ranks k h in
           let r = rank-struck E n ranks k t in
           omega arith
+
       older : (k : ℕ) → (fell ranks k ≡ true) ⊎ (fell ranks k ≡ false) → not (fell now k) ≡ true → not (fell ranks k) ≡ true
       older k b t =
           ⊎-elim

@@ -1,5 +1,5 @@
 -- The search upward (src/delays.rt): what holds at each delay, and where it stops. Assumes nothing.
-use Prim.Native.Nat.{ℕ, zero, suc, _+_, _-_, _/_, _^_, _≤_, _<_}
+use Prim.Native.Nat.{ℕ, _+_, _-_, _≤_, _<_}
 use mathlib.Core.Path.{_≡_, refl, sym, _∙_, ap}
 use mathlib.Core.Bool.{Bool, true, false, not}
 use mathlib.Core.Logic.{⊎-elim}
@@ -12,13 +12,12 @@ use borrow.Author.Tests.{not-true, not-false}
 use Rattle.theory.specs.Fold.{anyBelow}
 use Rattle.theory.specs.Game.{Game, Legal}
 use Rattle.theory.specs.Rounds.{finalRanks}
-use Rattle.theory.specs.Delay.{Verdict, wins, losing, arena, winning, answer}
+use Rattle.theory.specs.Delay.{wins, losing, arena, winning, answer}
 use Rattle.theory.proofs.Fold.{below?}
 use Rattle.theory.proofs.Rounds.{final-length}
-use Rattle.theory.proofs.Waiting.{answer-wins, answer-found, answer-least}
+use Rattle.theory.proofs.Waiting.{answer-wins, answer-found}
 use Rattle.sheet.specs.Checks.{nodesOf}
 use Rattle.solver.specs.declared.level.Level.{Level}
-use Rattle.solver.specs.declared.delays.Stop.{Stop}
 use Rattle.solver.specs.View.{viewOf, arenaOf, Sized, Room, levelAt}
 use Rattle.solver.specs.Strikes.{goodIn, firstWords, AtMost}
 use Rattle.solver.specs.Solving.{solvedDelay, over, verdictBy, Stopped}

@@ -1,5 +1,5 @@
 -- Filling both buffers, and solving, as the code of src/solve.rt finds them. Assumes nothing.
-use Prim.Native.Nat.{ℕ, zero, suc, _+_, _-_, _/_, _≤_, _<_}
+use Prim.Native.Nat.{ℕ, _≤_, _<_}
 use mathlib.Core.Path.{_≡_, refl, sym, _∙_, ap}
 use mathlib.Core.Bool.{Bool, true, false}
 use mathlib.Core.List.{List, _++_}
@@ -11,7 +11,7 @@ use lib.Seq.{take-at, length-take-le}
 use borrow.Author.Needs.{needs}
 use borrow.Author.Tests.{le-leb, lt-leb}
 use Rattle.theory.specs.Fold.{both}
-use Rattle.theory.specs.Answer.{Answer, refused, accepted, check, onAccepted}
+use Rattle.theory.specs.Answer.{refused, accepted, onAccepted}
 use Rattle.theory.specs.Game.{Game, Legal}
 use Rattle.theory.specs.Rounds.{masks, masksBy, finalRanks}
 use Rattle.theory.specs.Delay.{Verdict, wins, losing, arena, answer}
@@ -23,7 +23,7 @@ use Rattle.theory.proofs.Waiting.{answer-least}
 use Rattle.sheet.specs.Form.{partAt}
 use Rattle.sheet.specs.Checks.{nodesOf}
 use Rattle.sheet.specs.Refusals.{numberOf}
-use Rattle.sheet.specs.Reading.{readAnswer, delayOf, refusalNumber, positionsBody, targetsBody, movesBody, startOf, actionCount}
+use Rattle.sheet.specs.Reading.{readAnswer, delayOf, refusalNumber, positionsBody}
 use Rattle.sheet.specs.Reading as reading
 use Rattle.sheet.specs.Meant.{gameOf, gridOf}
 use Rattle.sheet.specs.declared.refusal.Refusal.{Refusal}
@@ -37,7 +37,7 @@ use Rattle.solver.specs.declared.level.Level.{Level}
 use Rattle.solver.specs.declared.delays.Stop.{Stop}
 use Rattle.solver.specs.View.{firstsOf, viewOf, arenaOf, Sized, Room, levelAt}
 use Rattle.solver.specs.Strikes.{AtMost}
-use Rattle.solver.specs.Solving.{Solved, solveAnswer, solvedDelay, over, masksAfter, ranksLeft, verdictBy, Stopped, bodiesGame, Fillable, Filled}
+use Rattle.solver.specs.Solving.{solveAnswer, solvedDelay, over, masksAfter, ranksLeft, verdictBy, Stopped, bodiesGame, Fillable, Filled}
 use Rattle.solver.proofs.More.{both-none}
 use Rattle.solver.proofs.LevelLaws.{nodes-less, room-less, level-sized, arena-is, nodes-is}
 use Rattle.solver.proofs.Bodies.{bodies-game}
@@ -302,6 +302,17 @@ module _ (s : List ℕ) (rd : Reading) (e : reading.meaning rd ≡ readAnswer s)
           pub solves-lost : r .wins ≡ false → Promised (losing (r .delay))
           solves-lost w = (answer-lost w, (masks-filled, ranks-filled))
 
-pub ruleset solving =
-    (needs, handed-on, masks-untouched, ranks-untouched, room-read, masks-refused, ranks-refused, masks-kept-1, ranks-kept-1, masks-kept-2,
-    ranks-kept-2, fillable-read)
+pub ruleset solving = (
+  needs,
+  handed-on,
+  masks-untouched,
+  ranks-untouched,
+  room-read,
+  masks-refused,
+  ranks-refused,
+  masks-kept-1,
+  ranks-kept-1,
+  masks-kept-2,
+  ranks-kept-2,
+  fillable-read,
+)

@@ -1,27 +1,27 @@
 -- What the walk over a node's actions and moves finds, and that it is theory's `spoiltBy` (specs/Walks.antt, specs/View.antt).
 -- Assumes nothing.
-use Prim.Native.Nat.{ℕ, zero, suc, _+_, _-_, _*_, _/_, _%_, _≤_, _<_}
+use Prim.Native.Nat.{ℕ, suc, _+_, _*_, _/_, _%_, _≤_, _<_}
 use mathlib.Core.Path.{_≡_, refl, sym, _∙_, ap}
-use mathlib.Core.Bool.{Bool, true, false, not, cond}
+use mathlib.Core.Bool.{Bool, true, false, not}
 use mathlib.Core.Logic.{⊎-elim}
-use mathlib.Core.List.{List, [], _∷_, map}
+use mathlib.Core.List.{List, [], map}
 use native.Mathlib.Omega.{arith}
 use native.Mathlib.Nat.{mod-lt, div-lt-iff-lt-mul}
 use native.Mathlib.Numerals.{add-one}
-use lib.Dec.{eqb, ltb, leb}
+use lib.Dec.{ltb, leb}
 use lib.ListN.{length, getD, List·getD-eq-default}
-use borrow.Author.Tests.{eq-eqb, ne-eqb, lt-ltb, le-ltb, le-leb, lt-leb, not-true, not-false}
+use borrow.Author.Tests.{eq-eqb, ne-eqb, lt-ltb, le-ltb, not-true, not-false}
 use borrow.Author.Needs.{needs}
-use Rattle.theory.specs.Fold.{both, either, allBelow, anyOf, tabulate}
+use Rattle.theory.specs.Fold.{both, either, allBelow, anyOf}
 use Rattle.theory.specs.Game.{Target, absent, to, Game}
-use Rattle.theory.specs.Rounds.{Arena, bad, spoiltBy}
+use Rattle.theory.specs.Rounds.{bad, spoiltBy}
 use Rattle.theory.specs.Delay.{withWord, movedTo, playedTo, outcomes}
 use Rattle.theory.proofs.Fold.{bool, all-none, all-suc, all-done, below?, not-both, all-again, either-left, any-of-nil, any-of-cons, both-true, both-false}
 use Rattle.sheet.specs.Kinds.{kindAt, isSafe, safeAt}
 use Rattle.sheet.specs.Meant.{unmark}
 use Rattle.solver.specs.declared.level.Level.{Level}
 use Rattle.solver.specs.declared.walk.Choice.{Choice}
-use Rattle.solver.specs.View.{cellAt, toAt, tosBetween, viewOf, levelArena, arenaOf, Sized}
+use Rattle.solver.specs.View.{cellAt, toAt, tosBetween, viewOf, levelArena, arenaOf}
 use Rattle.solver.specs.Walks.{fallenBy, blockedAt, movesFrom, movesAfter, playedAt, choiceAt, outcomeBy, outcomeAt, Chosen}
 use Rattle.solver.proofs.More.{both-none, both-second, either-second, all-short, any-of-map, tabulate-none, tabulate-next}
 

@@ -1,6 +1,6 @@
 -- What the solver's arrays hold, as a game, and its arena at the numbers of one delay. p is the P body, g the grid of targets,
 -- u the U body, f the index of first lines. Assumes nothing.
-use Prim.Native.Nat.{ℕ, zero, suc, _+_, _-_, _*_, _/_, _%_, _^_, _≤_, _<_}
+use Prim.Native.Nat.{ℕ, suc, _+_, _-_, _*_, _/_, _%_, _^_, _≤_, _<_}
 use mathlib.Core.Path.{_≡_}
 use mathlib.Core.Bool.{Bool, cond}
 use mathlib.Core.List.{List, []}
@@ -10,7 +10,7 @@ use Rattle.theory.specs.Fold.{both, firstNot, tabulate}
 use Rattle.theory.specs.Game.{Target, absent, Game}
 use Rattle.theory.specs.Rounds.{Arena}
 use Rattle.theory.specs.Delay.{odd, onRight, outcomes}
-use Rattle.sheet.specs.Limits.{mostPositions, mostActions, mostDelay, mostNodes}
+use Rattle.sheet.specs.Limits.{mostPositions, mostActions, mostNodes}
 use Rattle.sheet.specs.Checks.{nodesOf}
 use Rattle.sheet.specs.Kinds.{controllerAt, safeAt}
 use Rattle.sheet.specs.Meant.{unmark}

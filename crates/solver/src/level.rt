@@ -2,7 +2,6 @@
 use sheet::form::wide;
 use sheet::size::power;
 ghost use mathlib.Core.Path.{_≡_};
-ghost use Prim.Native.Nat.{_≤_};
 ghost use Rattle.solver.specs.View.{levelAt, Room};
 
 // power: the number of pending words. A node is a position times power, plus its pending word.

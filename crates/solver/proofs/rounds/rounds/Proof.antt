@@ -1,6 +1,5 @@
 use Prim.Native.Nat.{_+_, _≤_}
 use mathlib.Core.Path.{_≡_}
-use native.Mathlib.Omega.{arith}
 use lib.ListN.{length}
 use Rattle.theory.specs.Rounds.{ranksAfter}
 use Rattle.solver.specs.View.{arenaOf}
