@@ -15,13 +15,13 @@ use Rattle.theory.specs.Fold.{both, anyBelow}
 use Rattle.theory.specs.Game.{Game}
 use Rattle.theory.specs.Rounds.{fell, finalRanks, kept}
 use Rattle.theory.specs.Delay.{odd, words, onRight, arena, keptAt, goodBy, goodFrom, goodWith, winning, initialWords}
-use Rattle.theory.proofs.Fold.{both-true, any-none, any-holds, any-again, any-done}
+use Rattle.theory.proofs.Fold.{both-true, any-none, any-holds, any-again, any-done, both-none, both-second}
 use Rattle.sheet.specs.Kinds.{safeAt}
 use Rattle.sheet.specs.Meant.{unmark}
 use Rattle.solver.specs.declared.level.Level.{Level}
 use Rattle.solver.specs.View.{cellAt, viewOf, levelArena, arenaOf, Sized, levelAt}
 use Rattle.solver.specs.Strikes.{rightAt, keptIn, goodOn, goodIn, wordsOn, firstWords}
-use Rattle.solver.proofs.More.{both-none, both-second, product-small, product-fits, sum-fits}
+use Rattle.solver.proofs.Products.{product-small, product-fits, sum-fits}
 use Rattle.solver.proofs.WalkLaws.{unmark-absent, unmark-to}
 use Rattle.solver.proofs.LevelLaws.{arena-is, words-is}
 

@@ -1,5 +1,5 @@
 -- Laws of the definitions of specs/, on which the proofs of the functions rest.
-pub mod More
+pub mod Products
 pub mod Filling
 pub mod WalkLaws
 pub mod LevelLaws

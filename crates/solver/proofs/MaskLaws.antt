@@ -15,13 +15,12 @@ use borrow.Author.Needs.{needs}
 use borrow.Author.Tests.{eq-eqb, ne-eqb, lt-ltb, le-ltb, le-leb, not-true, not-false}
 use Rattle.theory.specs.Fold.{tabulate}
 use Rattle.theory.specs.Rounds.{Arena, spoiltBy, fell, maskBelow, maskAt, masksBy}
-use Rattle.theory.proofs.Fold.{below?}
+use Rattle.theory.proofs.Fold.{below?, both-none, both-second}
 use Rattle.theory.proofs.Masks.{mask-lt}
 use Rattle.solver.specs.declared.level.Level.{Level}
 use Rattle.solver.specs.View.{viewOf, levelArena, arenaOf, Sized}
 use Rattle.solver.specs.Walks.{fallenBy, allowedIn}
 use Rattle.solver.specs.Strikes.{keptIn, AtMost}
-use Rattle.solver.proofs.More.{both-none, both-second}
 use Rattle.solver.proofs.Filling.{filled, filled-none, filled-more, filled-done}
 use Rattle.solver.proofs.GoodLaws.{kept-is}
 

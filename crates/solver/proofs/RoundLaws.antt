@@ -15,14 +15,13 @@ use borrow.Author.Tests.{eq-eqb, ne-eqb, lt-ltb, le-ltb, le-leb, lt-leb, not-tru
 use Rattle.theory.specs.Fold.{both, allBelow, anyBelow, tabulate}
 use Rattle.theory.specs.Rounds.{Arena, spoiltBy, fell, falls, rankIn, ranksAfter, finalRanks}
 use Rattle.theory.specs.Delay.{onRight}
-use Rattle.theory.proofs.Fold.{bool, below?, both-true, both-left, both-right, both-false, any-none, any-suc, either-right, tabulate-same, length-tabulate, getD-tabulate, any-below-none, any-some, not-both, count, count-le, count-less}
+use Rattle.theory.proofs.Fold.{bool, below?, both-true, both-left, both-right, both-false, any-none, any-suc, either-right, tabulate-same, length-tabulate, getD-tabulate, any-below-none, any-some, not-both, count, count-le, count-less, both-none, both-second, either-first, not-not}
 use Rattle.theory.proofs.Rounds.{rank-zero, rank-le, length-after, stays-fallen, fell-true, fell-false, stood-rank, in-fallen, in-struck, in-stands, after-suc, final-is}
 use Rattle.sheet.specs.Kinds.{controllerAt, safeAt}
 use Rattle.solver.specs.declared.level.Level.{Level}
 use Rattle.solver.specs.View.{viewOf, levelArena, arenaOf}
 use Rattle.solver.specs.Walks.{fallenBy}
 use Rattle.solver.specs.Strikes.{rightAt, firstRank, struckBy, strikes, nextRanks, AtMost}
-use Rattle.solver.proofs.More.{both-none, both-second, either-first, not-not}
 use Rattle.solver.proofs.Filling.{filled, filled-none, filled-more, filled-keep, filled-done, filled-below, filled-above}
 
 -- sides

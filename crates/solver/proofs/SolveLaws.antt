@@ -15,7 +15,7 @@ use Rattle.theory.specs.Answer.{refused, accepted, onAccepted}
 use Rattle.theory.specs.Game.{Game, Legal}
 use Rattle.theory.specs.Rounds.{masks, masksBy, finalRanks}
 use Rattle.theory.specs.Delay.{Verdict, wins, losing, arena, answer}
-use Rattle.theory.proofs.Fold.{both-true, both-false}
+use Rattle.theory.proofs.Fold.{both-true, both-false, both-none}
 use Rattle.theory.proofs.Answer.{check-passed, check-failed}
 use Rattle.theory.proofs.Rounds.{final-length}
 use Rattle.theory.proofs.Region.{length-masks}
@@ -38,7 +38,6 @@ use Rattle.solver.specs.declared.delays.Stop.{Stop}
 use Rattle.solver.specs.View.{firstsOf, viewOf, arenaOf, Sized, Room, levelAt}
 use Rattle.solver.specs.Strikes.{AtMost}
 use Rattle.solver.specs.Solving.{solveAnswer, solvedDelay, over, masksAfter, ranksLeft, verdictBy, Stopped, bodiesGame, Fillable, Filled}
-use Rattle.solver.proofs.More.{both-none}
 use Rattle.solver.proofs.LevelLaws.{nodes-less, room-less, level-sized, arena-is, nodes-is}
 use Rattle.solver.proofs.Bodies.{bodies-game}
 

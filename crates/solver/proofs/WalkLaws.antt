@@ -16,14 +16,13 @@ use Rattle.theory.specs.Fold.{both, either, allBelow, anyOf}
 use Rattle.theory.specs.Game.{Target, absent, to, Game}
 use Rattle.theory.specs.Rounds.{bad, spoiltBy}
 use Rattle.theory.specs.Delay.{withWord, movedTo, playedTo, outcomes}
-use Rattle.theory.proofs.Fold.{bool, all-none, all-suc, all-done, below?, not-both, all-again, either-left, any-of-nil, any-of-cons, both-true, both-false}
+use Rattle.theory.proofs.Fold.{bool, all-none, all-suc, all-done, below?, not-both, all-again, either-left, any-of-nil, any-of-cons, both-true, both-false, both-none, both-second, either-second, all-short, any-of-map, tabulate-none, tabulate-next}
 use Rattle.sheet.specs.Kinds.{kindAt, isSafe, safeAt}
 use Rattle.sheet.specs.Meant.{unmark}
 use Rattle.solver.specs.declared.level.Level.{Level}
 use Rattle.solver.specs.declared.walk.Choice.{Choice}
 use Rattle.solver.specs.View.{cellAt, toAt, tosBetween, viewOf, levelArena, arenaOf}
 use Rattle.solver.specs.Walks.{fallenBy, blockedAt, movesFrom, movesAfter, playedAt, choiceAt, outcomeBy, outcomeAt, Chosen}
-use Rattle.solver.proofs.More.{both-none, both-second, either-second, all-short, any-of-map, tabulate-none, tabulate-next}
 
 -- targets, as the grid has them
 

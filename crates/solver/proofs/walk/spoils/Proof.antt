@@ -1,5 +1,5 @@
 use native.Mathlib.Omega.{arith}
-use Rattle.solver.proofs.More.{product-fits, sum-fits}
+use Rattle.solver.proofs.Products.{product-fits, sum-fits}
 use Rattle.solver.proofs.WalkLaws.{spoiling}
 use Rattle.solver.proofs.walk.spoils.Statement.{statement}
 use Rattle.solver.proofs.walk.spoils.Tie as tie
