@@ -25,7 +25,7 @@ fn skip_below(u: &[u8], from: usize, q: usize) -> usize
 }
 
 // For each position its first line, or where it would stand; one entry more, for the end of the last.
-pub fn first_lines(u: &[u8]) -> [u16; 257]
+pub(crate) fn first_lines(u: &[u8]) -> [u16; 257]
     requires { ⌜ length (now u) / 2 ≤ mostMoves ⌝ }
     ensures { λ r. ⌜ r ≡ firstsOf (now (u .entry)) ⌝ }
 {

@@ -12,7 +12,7 @@ ghost use Rattle.solver.specs.View.{Sized, arenaOf};
 ghost use Rattle.solver.specs.Strikes.{rightAt, firstRank, struckBy, strikes, nextRanks, AtMost};
 
 // Is this position of the side whose nodes can fall?
-pub fn on_right(p: &[u8], odd: bool, q: usize) -> bool
+pub(crate) fn on_right(p: &[u8], odd: bool, q: usize) -> bool
     ensures { λ r. ⌜ r ≡ rightAt odd (now (p .entry)) q ⌝ }
 {
     if odd {
@@ -97,7 +97,7 @@ fn round(
 }
 
 // All rounds, and their number: the last one in which a node fell, or round 1.
-pub fn rounds(
+pub(crate) fn rounds(
     p: &[u8],
     grid: &[[u16; 8]; 256],
     u: &[u8],

@@ -31,7 +31,7 @@ fn wide_mark(x: u16) -> usize
     x as usize
 }
 
-pub fn target(grid: &[[u16; 8]; 256], q: usize, x: usize) -> usize
+pub(crate) fn target(grid: &[[u16; 8]; 256], q: usize, x: usize) -> usize
     ensures { λ r. ⌜ (unmark r ≡ cellAt (now (grid .entry)) q x) × (r < 65536) ⌝ }
 {
     if 256 <= q {
@@ -147,7 +147,7 @@ fn spoils(
 }
 
 // Is action c spoilt at node k?
-pub fn spoilt(
+pub(crate) fn spoilt(
     p: &[u8],
     grid: &[[u16; 8]; 256],
     u: &[u8],
@@ -177,7 +177,7 @@ pub fn spoilt(
 
 // Is every action spoilt at node k? The inner loop leaves for the next action at the first spoiling line; an action whose lines
 // all pass ends the walk.
-pub fn doomed(
+pub(crate) fn doomed(
     p: &[u8],
     grid: &[[u16; 8]; 256],
     u: &[u8],

@@ -1,0 +1,88 @@
+//! The proved solver against a hand-written version of the same rounds and against the naive solver, in one run on one machine.
+use loquatquoits_tests::naive::{self, Game, Rule, Verdict};
+use loquatquoits_tests::proved;
+use loquatquoits_tests::random::Random;
+use loquatquoits_tests::sheets::{random_yard, Shape, Yard};
+use std::time::{Duration, Instant};
+
+mod hand;
+
+/// The least of several times of one run, the buffers cleared before each.
+fn time(runs: usize, mut run: impl FnMut()) -> Duration {
+    (0..runs)
+        .map(|_| {
+            let start = Instant::now();
+            run();
+            start.elapsed()
+        })
+        .min()
+        .unwrap()
+}
+
+fn measure(name: &str, yard: &Yard) {
+    let sheet = yard.sheet();
+    let pairs = yard.pairs();
+    let (mut masks, mut ranks) = (vec![0u8; pairs], vec![0u16; pairs]);
+    let game = hand::Hand::new(&sheet);
+    let answer = proved::solve(&sheet, &mut masks, &mut ranks).unwrap();
+    let (mut hand_masks, mut hand_ranks) = (vec![0u8; pairs], vec![0u16; pairs]);
+    assert_eq!(game.solve(&mut hand_masks, &mut hand_ranks), answer);
+    assert_eq!((&masks, &ranks), (&hand_masks, &hand_ranks));
+    let rounds = *ranks.iter().max().unwrap();
+
+    let by_proof = time(20, || {
+        masks.fill(0);
+        ranks.fill(0);
+        proved::solve(&sheet, &mut masks, &mut ranks).unwrap();
+    });
+    let by_hand = time(20, || {
+        masks.fill(0);
+        ranks.fill(0);
+        hand::Hand::new(&sheet).solve(&mut masks, &mut ranks);
+    });
+    let mut verdict = None;
+    let naively = time(1, || {
+        let read = naive::read(&sheet).unwrap();
+        verdict = Some(Game::of(&sheet, &read).solve(read.delay, Rule::Document));
+    });
+    let losing = match verdict.unwrap() {
+        Verdict::Winning(_) => None,
+        Verdict::Losing(m, _) => Some(m),
+    };
+    assert_eq!(losing, answer);
+    println!(
+        "| {name} | {pairs} | {rounds} | {:.3} ms | {:.3} ms | {:.2} | {:.0} ms | {:.0} |",
+        by_proof.as_secs_f64() * 1e3,
+        by_hand.as_secs_f64() * 1e3,
+        by_proof.as_secs_f64() / by_hand.as_secs_f64(),
+        naively.as_secs_f64() * 1e3,
+        naively.as_secs_f64() / by_proof.as_secs_f64(),
+    );
+}
+
+/// A chain: from each own position the yard goes one on, the last is unsafe, so that every round strikes one position more.
+fn chain(links: usize) -> Yard {
+    let own = |k: usize| (2 * k) as u8;
+    let other = |k: usize| (2 * k + 1) as u8;
+    let kinds = (0..links).flat_map(|k| [u8::from(k + 1 == links), 2]).collect();
+    let targets = (0..links).flat_map(|k| [[own(k), 0, other(k)], [own(k), 1, other(k)]]).collect();
+    let moves = (0..links).map(|k| [other(k), own((k + 1) % links)]).collect();
+    Yard { start: 0, actions: 2, delay: 0, kinds, targets, moves }
+}
+
+fn main() {
+    println!("| yard | pairs | rounds | proved | by hand | proved / by hand | naive | naive / proved |");
+    println!("|---|---|---|---|---|---|---|---|");
+    let mut random = Random::new(4);
+    for (name, actions, delay, own, environment, moves, unsafe_positions) in [
+        ("random, 8 actions, lag 4", 8, 4, 128, 128, 16, 0),
+        ("random, 8 actions, lag 4, some unsafe", 8, 4, 128, 128, 16, 4),
+        ("random, 8 actions, lag 5", 8, 5, 128, 128, 4, 0),
+        ("random, 8 actions, lag 6", 8, 6, 16, 16, 4, 2),
+        ("random, 4 actions, lag 6", 4, 6, 128, 128, 8, 0),
+    ] {
+        let shape = Shape { own, environment, actions, permitted: 90, moves, unsafe_positions };
+        measure(name, &random_yard(&mut random, &shape).at(delay));
+    }
+    measure("chain of 127 links, lag 0", &chain(127));
+}

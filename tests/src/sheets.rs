@@ -1,0 +1,131 @@
+//! Yards as data and as the bytes of a sheet: document 01, "Sheets".
+use crate::random::Random;
+
+#[derive(Clone, Debug)]
+pub struct Yard {
+    pub start: u8,
+    pub actions: u8,
+    pub delay: u8,
+    /// One byte a position: 0 own and safe, 1 own and unsafe, 2 yard and safe, 3 yard and unsafe.
+    pub kinds: Vec<u8>,
+    /// From, command, to; rising.
+    pub targets: Vec<[u8; 3]>,
+    /// From, to; rising.
+    pub moves: Vec<[u8; 2]>,
+}
+
+/// House form: the contents, then the bodies back to back.
+pub fn house(parts: &[(u8, &[u8])]) -> Vec<u8> {
+    let mut sheet = Vec::new();
+    let mut at = 5 * parts.len();
+    for (letter, body) in parts {
+        sheet.push(*letter);
+        for number in [at, body.len()] {
+            sheet.extend_from_slice(&(number as u16).to_le_bytes());
+        }
+        at += body.len();
+    }
+    for (_, body) in parts {
+        sheet.extend_from_slice(body);
+    }
+    sheet
+}
+
+impl Yard {
+    pub fn sheet(&self) -> Vec<u8> {
+        house(&[
+            (b'S', &[self.start, self.actions, self.delay]),
+            (b'P', &self.kinds),
+            (b'C', &self.targets.concat()),
+            (b'U', &self.moves.concat()),
+        ])
+    }
+
+    pub fn at(&self, delay: u8) -> Yard {
+        Yard { delay, ..self.clone() }
+    }
+
+    /// Pairs at the asked delay.
+    pub fn pairs(&self) -> usize {
+        self.kinds.len() * (self.actions as usize).pow(self.delay as u32 / 2)
+    }
+}
+
+fn yard(actions: u8, kinds: &[u8], targets: &[[u8; 3]], moves: &[[u8; 2]]) -> Yard {
+    Yard { start: 0, actions, delay: 0, kinds: kinds.to_vec(), targets: targets.to_vec(), moves: moves.to_vec() }
+}
+
+pub fn guess() -> Yard {
+    yard(2, &[0, 0, 2, 3], &[[0, 0, 2], [0, 1, 3], [1, 0, 3], [1, 1, 2]], &[[2, 0], [2, 1], [3, 0]])
+}
+
+pub fn split_gate() -> Yard {
+    yard(2, &[0, 0, 2], &[[0, 0, 2], [1, 1, 2]], &[[2, 0], [2, 1]])
+}
+
+pub fn looped() -> Yard {
+    yard(1, &[0, 2], &[[0, 0, 1]], &[[1, 0]])
+}
+
+pub fn hall() -> Yard {
+    yard(
+        2,
+        &[0, 0, 0, 0, 2, 2, 2],
+        &[[0, 0, 4], [0, 1, 4], [1, 0, 5], [1, 1, 5], [2, 0, 6], [3, 1, 6]],
+        &[[4, 2], [5, 3], [6, 0], [6, 1]],
+    )
+}
+
+/// A hall with one free turn more: the yard's choice at position 10 is needed four moves later, so lag 4 wins and lag 5 does not.
+pub fn long_hall() -> Yard {
+    yard(
+        2,
+        &[0, 0, 0, 0, 0, 0, 2, 2, 2, 2, 2],
+        &[[0, 0, 6], [0, 1, 6], [1, 0, 7], [1, 1, 7], [2, 0, 8], [2, 1, 8], [3, 0, 9], [3, 1, 9], [4, 0, 10], [5, 1, 10]],
+        &[[6, 2], [7, 3], [8, 4], [9, 5], [10, 0], [10, 1]],
+    )
+}
+
+/// What a random yard is drawn from.
+pub struct Shape {
+    pub own: usize,
+    pub environment: usize,
+    pub actions: u8,
+    /// Of a hundred commands at an own position, how many are permitted (one always is).
+    pub permitted: usize,
+    /// At most so many moves from a yard position.
+    pub moves: usize,
+    /// Of a hundred positions, how many are unsafe.
+    pub unsafe_positions: usize,
+}
+
+/// A yard of this shape, its sides in random order and its start own.
+pub fn random_yard(random: &mut Random, shape: &Shape) -> Yard {
+    let n = shape.own + shape.environment;
+    let mut sides: Vec<bool> = (0..n).map(|p| p < shape.own).collect();
+    for p in (1..n).rev() {
+        sides.swap(p, random.below(p + 1));
+    }
+    let own: Vec<u8> = (0..n).filter(|&p| sides[p]).map(|p| p as u8).collect();
+    let other: Vec<u8> = (0..n).filter(|&p| !sides[p]).map(|p| p as u8).collect();
+    let kinds = (0..n)
+        .map(|p| if sides[p] { 0 } else { 2 } + u8::from(random.percent(shape.unsafe_positions)))
+        .collect();
+    let mut targets = Vec::new();
+    for &p in &own {
+        let sure = random.below(shape.actions as usize) as u8;
+        for c in 0..shape.actions {
+            if c == sure || random.percent(shape.permitted) {
+                targets.push([p, c, *random.pick(&other)]);
+            }
+        }
+    }
+    let mut moves = Vec::new();
+    for &p in &other {
+        let mut to: Vec<u8> = (0..1 + random.below(shape.moves)).map(|_| *random.pick(&own)).collect();
+        to.sort_unstable();
+        to.dedup();
+        moves.extend(to.into_iter().map(|t| [p, t]));
+    }
+    Yard { start: *random.pick(&own), actions: shape.actions, delay: 0, kinds, targets, moves }
+}

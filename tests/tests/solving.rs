@@ -1,0 +1,286 @@
+//! The proved reader and solver against the naive ones: document 01's yards, random yards of every lag, and damaged sheets. A rule
+//! of the naive solver that is wrong makes these fail: set NAIVE_RULE to strike-once, freshest-action or pass-unsafe and see.
+use loquatquoits_tests::counts::{count, report, Counts};
+use loquatquoits_tests::naive::{self, Game, Rule, Verdict};
+use loquatquoits_tests::proved;
+use loquatquoits_tests::random::Random;
+use loquatquoits_tests::sheets::{self, random_yard, Shape, Yard};
+
+fn rule() -> Rule {
+    match std::env::var("NAIVE_RULE").as_deref() {
+        Ok("strike-once") => Rule::StrikeOnce,
+        Ok("freshest-action") => Rule::FreshestAction,
+        Ok("pass-unsafe") => Rule::PassUnsafe,
+        _ => Rule::Document,
+    }
+}
+
+const SPARE: usize = 3;
+
+fn pattern(n: usize) -> (Vec<u8>, Vec<u16>) {
+    ((0..n).map(|k| (k * 37 + 11) as u8).collect(), (0..n).map(|k| (k * 7919 + 5) as u16).collect())
+}
+
+/// Solves by both, with buffers longer than needed, and compares the answer and every entry.
+fn compare(sheet: &[u8], counts: &mut Counts) {
+    let read = naive::read(sheet);
+    assert_eq!(proved::read(sheet), read, "reading {sheet:?}");
+    let room = match &read {
+        Err(_) => 4,
+        Ok(r) => r.places[1].1 * (r.actions as usize).pow(r.delay as u32 / 2),
+    };
+    let (masks_before, ranks_before) = pattern(room + SPARE);
+    let (mut masks, mut ranks) = (masks_before.clone(), ranks_before.clone());
+    let answer = proved::solve(sheet, &mut masks, &mut ranks);
+    let r = match read {
+        Err(number) => {
+            assert_eq!(answer, Err(number));
+            assert_eq!((masks, ranks), (masks_before, ranks_before), "a refusal altered the buffers");
+            return count(counts, format!("refused {number}"));
+        }
+        Ok(r) => r,
+    };
+    let (expected, level) = match Game::of(sheet, &r).solve(r.delay, rule()) {
+        Verdict::Winning(level) => (None, level),
+        Verdict::Losing(m, level) => (Some(m), level),
+    };
+    assert_eq!(answer, Ok(expected), "{sheet:?}");
+    let owed = level.masks.len();
+    assert_eq!(masks[..owed], level.masks[..], "masks of {sheet:?}");
+    assert_eq!(ranks[..owed], level.ranks[..], "ranks of {sheet:?}");
+    assert_eq!(masks[owed..], masks_before[owed..], "masks beyond of {sheet:?}");
+    assert_eq!(ranks[owed..], ranks_before[owed..], "ranks beyond of {sheet:?}");
+    count(counts, match expected {
+        None => format!("winning at {}", r.delay),
+        Some(m) => format!("losing {m}"),
+    });
+    short_buffers(sheet, room, counts);
+}
+
+/// Either buffer one entry short is refused, and nothing is touched.
+fn short_buffers(sheet: &[u8], room: usize, counts: &mut Counts) {
+    for (masks_room, ranks_room) in [(room - 1, room), (room, room - 1)] {
+        let (masks_before, _) = pattern(masks_room);
+        let (_, ranks_before) = pattern(ranks_room);
+        let (mut masks, mut ranks) = (masks_before.clone(), ranks_before.clone());
+        assert_eq!(proved::solve(sheet, &mut masks, &mut ranks), Err(8));
+        assert_eq!((masks, ranks), (masks_before, ranks_before), "refusal 8 altered the buffers");
+        count(counts, "refused 8".into());
+    }
+}
+
+fn solve(yard: &Yard) -> (Option<u8>, Vec<u8>, Vec<u16>) {
+    let n = yard.pairs();
+    let (mut masks, mut ranks) = (vec![0; n], vec![0; n]);
+    let answer = proved::solve(&yard.sheet(), &mut masks, &mut ranks).unwrap();
+    (answer, masks, ranks)
+}
+
+#[test]
+fn yards_to_try() {
+    let guess = sheets::guess();
+    assert_eq!(guess.at(1).sheet().len(), 45);
+    let (answer, masks, _) = solve(&guess);
+    assert_eq!((answer, masks), (None, vec![1, 2, 0, 0]));
+    let (answer, _, ranks) = solve(&guess.at(1));
+    assert_eq!((answer, ranks), (Some(1), vec![0, 0, 2, 1]));
+    assert_eq!(solve(&guess.at(2)).0, Some(1));
+    let unsafe_start = Yard { kinds: vec![1, 0, 2, 3], ..guess.at(1) };
+    let (answer, _, ranks) = solve(&unsafe_start);
+    assert_eq!((answer, ranks), (Some(0), vec![1, 2, 0, 0]));
+
+    let split = sheets::split_gate();
+    assert_eq!(solve(&split).0, None);
+    let (answer, _, ranks) = solve(&split.at(1));
+    assert_eq!((answer, ranks), (Some(1), vec![0, 0, 2]));
+
+    let looped = sheets::looped();
+    let (answer, masks, _) = solve(&looped.at(6));
+    assert_eq!((answer, masks), (None, vec![1, 0]));
+    let (answer, masks, _) = solve(&looped.at(5));
+    assert_eq!((answer, masks), (None, vec![0, 1]));
+    assert_eq!(proved::read(&looped.at(7).sheet()), Err(3));
+
+    let hall = sheets::hall();
+    let (answer, masks, _) = solve(&hall.at(2));
+    assert_eq!((answer, masks), (None, vec![1, 1, 2, 2, 3, 0, 0, 3, 0, 0, 0, 0, 0, 0]));
+    let (answer, _, ranks) = solve(&hall.at(3));
+    assert_eq!((answer, ranks), (Some(3), vec![0, 0, 0, 0, 0, 0, 0, 0, 4, 2, 2, 4, 3, 3]));
+}
+
+/// Every verdict that a yard can have, by one yard for each: an even lag loses only where the odd one before it does.
+#[test]
+fn every_losing_lag() {
+    let mut counts = Counts::new();
+    for yard in [sheets::guess(), sheets::split_gate(), sheets::looped(), sheets::hall(), sheets::long_hall()] {
+        for delay in 0..7 {
+            compare(&yard.at(delay).sheet(), &mut counts);
+        }
+    }
+    compare(&Yard { kinds: vec![1, 0, 2, 3], ..sheets::guess() }.sheet(), &mut counts);
+    report("losing lags", &counts, &[0, 1, 3, 5].map(|m| format!("losing {m}")));
+}
+
+/// So many positions in pairs of an own and a yard one, all commands permitted: for the limits of refusal 7.
+fn ladder(positions: usize, actions: u8, delay: u8) -> Yard {
+    let own: Vec<u8> = (0..positions).step_by(2).map(|p| p as u8).collect();
+    let other: Vec<u8> = (1..positions).step_by(2).map(|p| p as u8).collect();
+    let targets = own
+        .iter()
+        .enumerate()
+        .flat_map(|(k, &p)| (0..actions).map(move |c| (k, p, c)))
+        .map(|(k, p, c)| [p, c, other[k.min(other.len() - 1)]])
+        .collect();
+    let moves = other.iter().enumerate().map(|(k, &p)| [p, own[(k + 1) % own.len()]]).collect();
+    let kinds = (0..positions).map(|p| if p % 2 == 0 { 0 } else { 2 }).collect();
+    Yard { start: 0, actions, delay, kinds, targets, moves }
+}
+
+#[test]
+fn limits_of_size() {
+    assert!(proved::read(&ladder(256, 8, 4).sheet()).is_ok());
+    assert_eq!(proved::read(&ladder(256, 8, 6).sheet()), Err(7));
+    assert!(proved::read(&ladder(32, 8, 6).sheet()).is_ok());
+    assert_eq!(proved::read(&ladder(33, 8, 6).sheet()), Err(7));
+    let mut counts = Counts::new();
+    for yard in [ladder(256, 8, 4), ladder(32, 8, 6), ladder(64, 4, 6)] {
+        compare(&yard.sheet(), &mut counts);
+    }
+    let wide = Yard { kinds: vec![0; 257], ..sheets::looped() };
+    assert_eq!(proved::read(&wide.sheet()), Err(2));
+    assert_eq!(proved::read(&full_moves(4096).sheet()).map(|r| r.places[3].1), Ok(8192));
+    assert_eq!(proved::read(&full_moves(4097).sheet()), Err(5));
+    compare(&full_moves(4096).sheet(), &mut counts);
+    report("limits", &counts, &[]);
+}
+
+/// A yard with so many moves: 128 own positions, and as many lines from the yard's as asked.
+fn full_moves(lines: usize) -> Yard {
+    let mut yard = ladder(256, 2, 2);
+    let all = (1..256).step_by(2).flat_map(|p| (0..256).step_by(2).map(move |t| [p as u8, t as u8]));
+    let mut moves: Vec<[u8; 2]> = all.collect();
+    // keep one line for each yard position, and of the others as many as are still wanted
+    let mut spare = lines - 128;
+    moves.retain(|line| {
+        let first = line[1] == 0;
+        if !first && spare > 0 {
+            spare -= 1;
+            return true;
+        }
+        first
+    });
+    yard.moves = moves;
+    yard
+}
+
+/// The paper's Example 1 (document 000): c1 to c3 are 0 to 2, e1 to e5 are 3 to 7, a is 0 and b is 1; e3 is unsafe. The text gives no
+/// edges of its Fig. 1; these are the ones that its discussion and the strategies of Example 2 settle.
+fn example_one() -> Yard {
+    Yard {
+        start: 0,
+        actions: 2,
+        delay: 0,
+        kinds: vec![0, 0, 0, 2, 2, 3, 2, 2],
+        targets: vec![[0, 0, 3], [0, 1, 4], [1, 0, 6], [1, 1, 5], [2, 0, 5], [2, 1, 7]],
+        moves: vec![[3, 1], [4, 2], [5, 0], [6, 0], [6, 2], [7, 0], [7, 1]],
+    }
+}
+
+/// Example 2's strategies at delays 0, 1 and 2, and "winning strategies for the controller vanish when the delay reaches 3".
+#[test]
+fn paper_example() {
+    let (a, b, both) = (1, 2, 3);
+    let (answer, masks, _) = solve(&example_one());
+    assert_eq!((answer, masks), (None, vec![both, a, b, 0, 0, 0, 0, 0]));
+    let (answer, masks, _) = solve(&example_one().at(1));
+    assert_eq!((answer, masks), (None, vec![0, 0, 0, a, b, 0, b, a]));
+    let (answer, masks, _) = solve(&example_one().at(2));
+    assert_eq!((answer, masks[..6].to_vec()), (None, vec![a, b, b, 0, 0, a]));
+    assert_eq!(masks[6..], [0; 10]);
+    assert_eq!(solve(&example_one().at(3)).0, Some(3));
+}
+
+#[test]
+fn random_yards() {
+    let mut random = Random::new(2018);
+    let mut counts = Counts::new();
+    for round in 0..6000 {
+        let actions = 1 + random.below(if round % 8 == 0 { 8 } else { 3 }) as u8;
+        let shape = Shape {
+            own: 1 + random.below(6),
+            environment: 1 + random.below(6),
+            actions,
+            permitted: *random.pick(&[15, 50, 80, 100]),
+            moves: *random.pick(&[1, 2, 4]),
+            unsafe_positions: *random.pick(&[0, 0, 10, 30]),
+        };
+        let mut delay = random.below(7) as u8;
+        while (actions as usize).pow(delay as u32 / 2) > 64 {
+            delay -= 1;
+        }
+        let yard = random_yard(&mut random, &shape);
+        compare(&yard.at(delay).sheet(), &mut counts);
+    }
+    let winning = (0..7).map(|d| format!("winning at {d}"));
+    let losing = [0, 1, 3].map(|m| format!("losing {m}"));
+    report("random yards", &counts, &winning.chain(losing).chain(["refused 8".into()]).collect::<Vec<_>>());
+}
+
+#[test]
+fn large_yards() {
+    let mut random = Random::new(16384);
+    let mut counts = Counts::new();
+    for (own, environment, actions, delay) in
+        [(128, 128, 8, 4), (128, 128, 8, 5), (16, 16, 8, 6), (100, 156, 4, 6), (1, 255, 8, 4), (200, 56, 2, 6)]
+    {
+        for unsafe_positions in [0, 5] {
+            let shape = Shape { own, environment, actions, permitted: 85, moves: 6, unsafe_positions };
+            compare(&random_yard(&mut random, &shape).at(delay).sheet(), &mut counts);
+        }
+    }
+    report("large yards", &counts, &[]);
+}
+
+/// Damage of one kind to a sheet.
+fn damage(random: &mut Random, sheet: &mut Vec<u8>) {
+    let at = random.below(sheet.len());
+    let other = random.below(sheet.len());
+    match random.below(6) {
+        0 => sheet[at] = random.next() as u8,
+        1 => sheet[at] = sheet[at].wrapping_add(1),
+        2 => sheet.truncate(at),
+        3 => sheet.swap(at, other),
+        4 => sheet.push(random.next() as u8),
+        _ => sheet[at] = random.below(9) as u8,
+    }
+}
+
+#[test]
+fn damaged_sheets() {
+    let mut random = Random::new(7);
+    let mut counts = Counts::new();
+    for _ in 0..20000 {
+        let shape = Shape {
+            own: 1 + random.below(4),
+            environment: 1 + random.below(4),
+            actions: 1 + random.below(3) as u8,
+            permitted: 60,
+            moves: 3,
+            unsafe_positions: 10,
+        };
+        let yard = random_yard(&mut random, &shape);
+        let mut sheet = yard.at(random.below(5) as u8).sheet();
+        for _ in 0..1 + random.below(2) {
+            if !sheet.is_empty() {
+                damage(&mut random, &mut sheet);
+            }
+        }
+        compare(&sheet, &mut counts);
+    }
+    for length in 0..200 {
+        let sheet: Vec<u8> = (0..length).map(|_| random.next() as u8).collect();
+        compare(&sheet, &mut counts);
+    }
+    compare(&ladder(33, 8, 6).sheet(), &mut counts);
+    report("damaged sheets", &counts, &(1..8).map(|n| format!("refused {n}")).collect::<Vec<_>>());
+}
