@@ -1,1 +1,3 @@
 -- The theorems over specs/.
+pub mod Sheets
+pub mod Readable
