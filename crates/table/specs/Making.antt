@@ -21,13 +21,21 @@ use Rattle.table.specs.declared.making.Making.the-variants.{Winning, Los
 unfoldable pub headerOf : Game → ℕ → List ℕ
 headerOf G d = G .start ∷ G .actions ∷ d ∷ (G .positions - 1) ∷ []
 
--- "A winning sheet has S, W, T"
-unfoldable pub winningSheet : Game → ℕ → List ℕ
-winningSheet G d = sheetOf width (part 83 (headerOf G d) ∷ part 87 (flags G d) ∷ part 84 (masks (arena G d)) ∷ [])
+-- "A winning sheet has S, W, T", with these bodies
+unfoldable pub tableBytes : List ℕ → List ℕ → List ℕ → List ℕ
+tableBytes h w t = sheetOf width (part 83 h ∷ part 87 w ∷ part 84 t ∷ [])
 
--- "A losing sheet has S, R", with m as its lag; R has "two bytes of rank, low byte first, for each pair by pair number"
+-- "A losing sheet has S, R"; R has "two bytes of rank, low byte first, for each pair by pair number"
+unfoldable pub rankBytes : List ℕ → List ℕ → List ℕ
+rankBytes h ranks = sheetOf width (part 83 h ∷ part 82 (shortsText ranks) ∷ [])
+
+-- the winning sheet: W has "a byte for each first word", T "the masks by pair number"
+unfoldable pub winningSheet : Game → ℕ → List ℕ
+winningSheet G d = tableBytes (headerOf G d) (flags G d) (masks (arena G d))
+
+-- the losing sheet, "with m as its lag"
 unfoldable pub losingSheet : Game → ℕ → List ℕ
-losingSheet G m = sheetOf width (part 83 (headerOf G m) ∷ part 82 (shortsText (finalRanks (arena G m))) ∷ [])
+losingSheet G m = rankBytes (headerOf G m) (finalRanks (arena G m))
 
 -- the sheet made, with m where the game is losing
 pub data Made : Type 0 where
