@@ -6,3 +6,4 @@ pub mod Made
 pub mod SizeLaws
 pub mod TableLaws
 pub mod WriteLaws
+pub mod MakeLaws

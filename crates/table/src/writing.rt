@@ -49,7 +49,7 @@ pub(crate) fn put_table(out: &mut [u8], h: &[u8], w: &[u8], t: &[u8]) -> usize
 
 // A rank sheet with this S body and these ranks.
 pub(crate) fn put_ranks(out: &mut [u8], h: &[u8], ranks: &[u16]) -> usize
-    requires { ⌜ (length (now h) ≤ 65536) × (length (now ranks) ≤ 65536) ⌝ }
+    requires { ⌜ (length (now h) ≤ 65536) × (length (now ranks) ≤ 131072) ⌝ }
     ensures { λ r. ⌜ page (now (out .exit)) r ≡ puts (page (now (out .entry)) 0) (rankBytes (now (h .entry)) (now (ranks .entry))) ⌝ }
 {
     let mut to = put_entry(out, 0, b'S', RANK_CONTENTS, h.len());
