@@ -1,32 +1,32 @@
 -- Making, as the code of src/making.rt finds it: the checks before have passed, and one fails, or all pass and the sheet is
 -- written. Assumes nothing.
-use Prim.Native.Nat.{ℕ, suc, _+_, _-_, _*_, _^_, _≤_, _<_}
+use Prim.Native.Nat.{ℕ, suc, _+_, _*_, _^_, _≤_, _<_}
 use mathlib.Core.Path.{_≡_, refl, sym, _∙_, ap}
-use mathlib.Core.Bool.{Bool, true, false, cond}
+use mathlib.Core.Bool.{Bool, true, false}
 use mathlib.Core.Logic.{⊎-elim}
-use mathlib.Core.List.{List, [], _∷_, _++_}
+use mathlib.Core.List.{List}
 use native.Mathlib.Omega.{arith}
-use lib.Dec.{leb, eqb}
-use lib.ListN.{length, take, drop, replicate, length-append, length-take, length-replicate}
-use lib.Seq.{take-append-seam}
+use lib.Dec.{leb}
+use lib.ListN.{length, take, drop, replicate, length-take, length-replicate}
+use lib.Seq.{take-append-seam, length-take-le}
 use borrow.Author.Needs.{needs}
-use borrow.Author.Tests.{leb-true, leb-false, le-leb, lt-leb}
-use Rattle.theory.specs.Fold.{both, allBelow, firstNot}
+use borrow.Author.Tests.{leb-true, le-leb, lt-leb}
+use Rattle.theory.specs.Fold.{both, firstNot, tabulate}
 use Rattle.theory.specs.Answer.{Answer, refused, accepted, check, onAccepted}
 use Rattle.theory.specs.Game.{Game}
 use Rattle.theory.specs.Strategy.{initialLength}
 use Rattle.theory.specs.Rounds.{masks, finalRanks}
 use Rattle.theory.specs.Delay.{Verdict, wins, losing, winning, initialWords, arena, flags, answerBy, answer}
 use Rattle.theory.proofs.Fold.{bool, both-true, both-false, both-left, both-right, all-fails, first}
-use Rattle.theory.proofs.Answer.{refused-not-accepted, check-passed, check-failed}
+use Rattle.theory.proofs.Answer.{refused-not-accepted, check-passed}
 use Rattle.theory.proofs.Rounds.{final-length}
 use Rattle.theory.proofs.Ours.{ours-fits}
 use Rattle.theory.specs.Table.{ours}
 use Rattle.sheet.specs.Refusals.{numberOf}
 use Rattle.sheet.specs.Checks.{nodesOf}
-use Rattle.sheet.specs.Reading.{readAnswer, delayOf, startOf, actionCount, meaning, refusalNumber}
+use Rattle.sheet.specs.Reading.{readAnswer, delayOf, actionCount, meaning, refusalNumber}
 use Rattle.sheet.specs.Meant.{gameOf}
-use Rattle.sheet.proofs.More.{both-none, both-second}
+use Rattle.sheet.proofs.More.{both-none}
 use Rattle.sheet.proofs.Accepted.{read-is, ranges, carries, arena-nodes}
 use Rattle.sheet.specs.declared.refusal.Refusal.{Refusal}
 use Rattle.sheet.specs.declared.reading.Layout.{Layout}
@@ -38,10 +38,9 @@ use Rattle.solver.specs.Solving.{solveAnswer, over, solvedDelay, masksAfter, ra
 use Rattle.solver.specs.Solving as solving
 use Rattle.solver.specs.declared.solve.Solution.{Solution}
 use Rattle.solver.specs.declared.solve.Solution.the-variants as solution
-use Rattle.solver.specs.Words.{flagsBy, flagsIn, wordsIn}
-use Rattle.table.specs.Making.{headerOf, headerBytes, tableBytes, rankBytes, winningSheet, losingSheet, Made, won, lost, madeOf, outputSize, shortOf, makeAnswer, ifMade, outputAfter, measureOf, measured, Small, Begins, Ready, Solved}
-use Rattle.table.proofs.More.{accepted-same, wins-winning, power-bound}
-use Rattle.table.proofs.Readable.{Ranged}
+use Rattle.solver.specs.Flags.{flagWith, countIn, flagsCount, flagsAfter}
+use Rattle.table.specs.Making.{headerOf, headerBytes, tableBytes, rankBytes, winningSheet, losingSheet, Made, won, lost, madeOf, outputSize, shortOf, makeAnswer, ifMade, outputAfter, Measured, measureOf, measured, Small, Begins, Ready, Solved}
+use Rattle.table.proofs.More.{accepted-same, power-bound}
 use Rattle.table.proofs.Made.{sheet-ranged, winning-fits, losing-fits}
 
 -- checks 8 and 9; n and w are the nodes and first words that the code has counted, x the refusal's number
@@ -107,8 +106,8 @@ pub ranks-written : (l : Layout) (m n : ℕ) (h xs : List ℕ) (p : Page) {q : P
     → q ≡ puts p (rankBytes h (take n xs)) → q ≡ puts p (rankBytes (headerBytes l m) (take (nodesOf (l .positions .size) (l .actions) m) xs))
 ranks-written l m n h xs p en eh e = e ∙ ap (λ b. puts p (rankBytes b (take n xs))) eh ∙ ap (λ k. puts p (rankBytes (headerBytes l m) (take k xs))) en
 
-pub counted-inside : {n N k : ℕ} → n ≡ N → N ≤ k → n ≤ k
-counted-inside e h = omega arith
+pub counted-inside : (n N : ℕ) (xs : List ℕ) → n ≡ N → N ≤ length xs → n ≡ length (take n xs)
+counted-inside n N xs e h = sym (length-take-le n xs (omega arith))
 
 pub ruleset rank-sheets = (needs, header-short, front-short, counted-inside, ranks-written)
 
@@ -124,7 +123,7 @@ begins-room xs buffer e =
     omega (arith, rw (length-take (length xs) buffer) at b)
 
 -- the flags before the first words are counted
-abbrev zeros : List ℕ
+abbrev pub zeros : List ℕ
 zeros = replicate 512 0
 
 -- the table sheet; n is the number of nodes that the code has counted, w of first words
@@ -138,32 +137,37 @@ module _ (G : Game) (d : ℕ) where
   unfolding ours
   flags-length = ours-fits G d .flags-length
 
-  flags-are : flagsBy G d (finalRanks (arena G d)) ≡ flags G d
-  unfolding flagsBy flags
+  flags-are : tabulate (flagWith G d (finalRanks (arena G d))) 0 (initialWords G d) ≡ flags G d
+  unfolding flagWith flags
   flags-are = refl
 
 module _ (s : List ℕ) (l : Layout) (M R : List ℕ) (ready : Solved s l M R) where
   pub solved-small : Small l
   solved-small = small s l (ready .reads)
 
+  pub solved-positions : l .positions .size ≤ 256
+  solved-positions = solved-small .few-positions
+
+  pub solved-actions : l .actions ≤ 8
+  solved-actions = solved-small .few-actions
+
+  pub solved-delay : l .delay ≤ 6
+  solved-delay = solved-small .short-delay
+
   asked : (n : ℕ) → n ≡ nodesOf (l .positions .size) (l .actions) (l .delay) → n ≡ arena (gameOf s) (delayOf s) .nodes
   asked n e = let c = carries s l (ready .reads) in e ∙ nodes-are s l (ready .reads) (l .delay) ∙ ap (λ m. arena (gameOf s) m .nodes) (c .delay)
 
-  pub ranks-inside : (n : ℕ) → n ≡ nodesOf (l .positions .size) (l .actions) (l .delay) → n ≤ length R
-  ranks-inside n e = omega (arith, asked n e, final-length (arena (gameOf s) (delayOf s)), begins-room _ _ (ready .ranks))
+  pub ranks-inside : (n : ℕ) → n ≡ nodesOf (l .positions .size) (l .actions) (l .delay) → n ≡ length (take n R)
+  ranks-inside n e = counted-inside n _ R (asked n e ∙ sym (final-length (arena (gameOf s) (delayOf s)))) (begins-room _ _ (ready .ranks))
 
-  pub masks-inside : (n : ℕ) → n ≡ nodesOf (l .positions .size) (l .actions) (l .delay) → n ≤ length M
-  masks-inside n e = omega (arith, asked n e, masks-length (gameOf s) (delayOf s), begins-room _ _ (ready .masks))
+  pub masks-inside : (n : ℕ) → n ≡ nodesOf (l .positions .size) (l .actions) (l .delay) → n ≡ length (take n M)
+  masks-inside n e = counted-inside n _ M (asked n e ∙ sym (masks-length (gameOf s) (delayOf s))) (begins-room _ _ (ready .masks))
 
   front-ranks : (n : ℕ) → n ≡ nodesOf (l .positions .size) (l .actions) (l .delay) → take n R ≡ finalRanks (arena (gameOf s) (delayOf s))
   front-ranks n e = rw (asked n e ∙ sym (final-length (arena (gameOf s) (delayOf s)))) (ready .ranks)
 
   front-masks : (n : ℕ) → n ≡ nodesOf (l .positions .size) (l .actions) (l .delay) → take n M ≡ masks (arena (gameOf s) (delayOf s))
   front-masks n e = rw (asked n e ∙ sym (masks-length (gameOf s) (delayOf s))) (ready .masks)
-
-  words-counted : (w : ℕ) → w ≡ wordsIn s (readAnswer s) → w ≡ initialWords (gameOf s) (delayOf s)
-  unfolding wordsIn
-  words-counted w e = rw (ready .reads) at e
 
   few-words : initialWords (gameOf s) (delayOf s) ≤ 512
   unfolding initialWords gameOf
@@ -172,33 +176,47 @@ module _ (s : List ℕ) (l : Layout) (M R : List ℕ) (ready : Solved s l M R) w
       let i : initialLength (delayOf s) ≤ 3 = omega (arith, r .short-delay) in
       power-bound (actionCount s) (initialLength (delayOf s)) (r .few-actions) i
 
-  pub words-inside : (w : ℕ) → w ≡ wordsIn s (readAnswer s) → w ≤ 512
-  words-inside w e = rw (words-counted w e) few-words
-
-  flags-filled : (F : List ℕ) → F ≡ flagsIn s (readAnswer s) (finalRanks (arena (gameOf s) (delayOf s))) zeros
-      → Begins (flags (gameOf s) (delayOf s)) F
-  unfolding flagsIn
-  flags-filled F e =
+  all-words : flagsCount s (length zeros) ≡ initialWords (gameOf s) (delayOf s)
+  unfolding flagsCount countIn
+  all-words =
       let fits : initialWords (gameOf s) (delayOf s) ≤ length zeros = rw (length-replicate {A = ℕ} 512 0) few-words in
-      let room : leb (initialWords (gameOf s) (delayOf s)) (length zeros) ≡ true = le-leb _ _ fits in
-      let f : F ≡ over (flagsBy (gameOf s) (delayOf s) (finalRanks (arena (gameOf s) (delayOf s)))) zeros = rw (ready .reads, room) at e in
-      rw (f, flags-are (gameOf s) (delayOf s)) (over-begins (flags (gameOf s) (delayOf s)) zeros)
+      rw (ready .reads, le-leb _ _ fits)
+
+  words-inside : (w : ℕ) → w ≡ flagsCount s (length zeros) → w ≤ 512
+  words-inside w e = rw (e ∙ all-words) few-words
+
+  flags-filled : (F : List ℕ) → F ≡ flagsAfter s (finalRanks (arena (gameOf s) (delayOf s))) zeros → Begins (flags (gameOf s) (delayOf s)) F
+  unfolding flagsAfter
+  flags-filled F e = rw (e, all-words, flags-are (gameOf s) (delayOf s)) (over-begins (flags (gameOf s) (delayOf s)) zeros)
+
+  pub flags-room : (n w : ℕ) (F : List ℕ) → n ≡ nodesOf (l .positions .size) (l .actions) (l .delay) → w ≡ flagsCount s (length zeros)
+      → F ≡ flagsAfter s (take n R) zeros → w ≤ length F
+  flags-room n w F en ew ef =
+      omega (arith, ew ∙ all-words, flags-length (gameOf s) (delayOf s), begins-room _ _ (flags-filled F (rw (front-ranks n en) at ef)))
+
+  pub flags-inside : (n w : ℕ) (F : List ℕ) → n ≡ nodesOf (l .positions .size) (l .actions) (l .delay) → w ≡ flagsCount s (length zeros)
+      → F ≡ flagsAfter s (take n R) zeros → w ≡ length (take w F)
+  flags-inside n w F en ew ef = counted-inside w _ F refl (flags-room n w F en ew ef)
+
+  pub flags-short : (w : ℕ) (F : List ℕ) → w ≡ flagsCount s (length zeros) → length (take w F) ≤ 65536
+  flags-short w F e = rw (length-take w F) (omega (arith, words-inside w e))
 
   pub table-written : (n w : ℕ) (F h : List ℕ) (p : Page) {q : Page} → n ≡ nodesOf (l .positions .size) (l .actions) (l .delay)
-      → w ≡ wordsIn s (readAnswer s) → F ≡ flagsIn s (readAnswer s) (take n R) (replicate 512 0) → h ≡ headerBytes l (l .delay)
+      → w ≡ flagsCount s (length zeros) → F ≡ flagsAfter s (take n R) zeros → h ≡ headerBytes l (l .delay)
       → q ≡ puts p (tableBytes h (take w F) (take n M)) → q ≡ puts p (winningSheet (gameOf s) (delayOf s))
   unfolding winningSheet
   table-written n w F h p en ew ef eh e =
       let c = carries s l (ready .reads) in
       let hs : h ≡ headerOf (gameOf s) (delayOf s) = eh ∙ header-are s l (ready .reads) (l .delay) ∙ ap (headerOf (gameOf s)) (c .delay) in
       let fl : Begins (flags (gameOf s) (delayOf s)) F = flags-filled F (rw (front-ranks n en) at ef) in
-      let wl : w ≡ length (flags (gameOf s) (delayOf s)) = words-counted w ew ∙ sym (flags-length (gameOf s) (delayOf s)) in
+      let wl : w ≡ length (flags (gameOf s) (delayOf s)) = ew ∙ all-words ∙ sym (flags-length (gameOf s) (delayOf s)) in
       let ws : take w F ≡ flags (gameOf s) (delayOf s) = rw wl fl in
       e ∙ ap (puts p) (ap (λ b. tableBytes b (take w F) (take n M)) hs
       ∙ ap (λ b. tableBytes (headerOf (gameOf s) (delayOf s)) b (take n M)) ws
       ∙ ap (tableBytes (headerOf (gameOf s) (delayOf s)) (flags (gameOf s) (delayOf s))) (front-masks n en))
 
-pub ruleset table-sheets = (needs, solved-small, ranks-inside, masks-inside, words-inside, header-short, table-written)
+pub ruleset table-sheets =
+    (needs, solved-small, solved-positions, solved-actions, solved-delay, ranks-inside, masks-inside, flags-room, flags-inside, flags-short, header-short, table-written)
 
 -- solving and writing, once every check has passed
 
@@ -229,18 +247,28 @@ module _ (s : List ℕ) (l : Layout) (M R O : List ℕ) (ready : Ready s l (leng
   abbrev d : ℕ
   d = delayOf s
 
+  pub ready-small : Small l
+  ready-small = small s l (ready .reads)
+
   solve-is : solveAnswer s (length M) (length R) ≡ accepted (record { verdict = answer G d; layout = l })
   unfolding solveAnswer onAccepted
   solve-is =
       rw (ready .reads)
       (check-passed _ 8 _ (both-true _ _ (le-leb _ _ (ready .masks-room)) (le-leb _ _ (ready .ranks-room))))
 
-  make-is : makeAnswer s (length M) (length R) (length O) ≡ accepted (madeOf G d (answer G d))
+  pub make-is : makeAnswer s (length M) (length R) (length O) ≡ accepted (madeOf G d (answer G d))
   unfolding makeAnswer onAccepted
   make-is = rw solve-is (check-passed _ 9 _ (le-leb _ _ (ready .output-room)))
 
   module _ (y : Solution) (ey : solving.meaning y ≡ solveAnswer s (length M) (length R)) (M′ R′ : List ℕ)
       (em : M′ ≡ masksAfter s (solveAnswer s (length M) (length R)) M) (er : R′ ≡ ranksLeft s (solveAnswer s (length M) (length R)) R) where
+    -- the contract, for what the code answers
+    abbrev pub Promised : Verdict → List ℕ → ℕ → Type 0
+    Promised v O′ n =
+        (accepted (record { verdict = v; size = n }) ≡ measured (makeAnswer s (length M) (length R) (length O)))
+        × ((M′ ≡ masksAfter s (solveAnswer s (length M) (length R)) M)
+        × ((R′ ≡ ranksLeft s (solveAnswer s (length M) (length R)) R) × (O′ ≡ outputAfter (makeAnswer s (length M) (length R) (length O)) O)))
+
     masks-over : M′ ≡ over (masks (arena G (solvedDelay d (answer G d)))) M
     unfolding masksAfter
     masks-over = rw solve-is at em
@@ -271,13 +299,16 @@ module _ (s : List ℕ) (l : Layout) (M R O : List ℕ) (ready : Ready s l (leng
       won-fits = omega (arith, winning-fits G d (sheet-ranged s l (ready .reads)), ready .output-room)
 
       module _ (O′ : List ℕ) (n : ℕ) (eo : page O′ n ≡ puts (page O 0) (winningSheet G d)) where
-        pub won-answer : accepted (record { verdict = wins; size = n }) ≡ measured (makeAnswer s (length M) (length R) (length O))
+        won-answer : accepted (record { verdict = wins; size = n }) ≡ measured (makeAnswer s (length M) (length R) (length O))
         unfolding measured measureOf onAccepted
         won-answer = rw won-is (ap (λ k. accepted (record { verdict = wins; size = k })) (text-length (winningSheet G d) O O′ n won-fits eo))
 
-        pub won-output : O′ ≡ outputAfter (makeAnswer s (length M) (length R) (length O)) O
+        won-output : O′ ≡ outputAfter (makeAnswer s (length M) (length R) (length O)) O
         unfolding outputAfter
         won-output = rw won-is (text-over (winningSheet G d) O O′ n won-fits eo)
+
+        pub makes-won : Promised wins O′ n
+        makes-won = (won-answer, (em, (er, won-output)))
 
     -- losing m
     module _ (m : ℕ) (x : Layout) (ex : y ≡ solution.Losing m x) where
@@ -319,35 +350,39 @@ module _ (s : List ℕ) (l : Layout) (M R O : List ℕ) (ready : Ready s l (leng
         text : page O′ n ≡ puts (page O 0) (losingSheet G m)
         text = eo ∙ ap (puts (page O 0)) losing-text
 
-        pub lost-answer : accepted (record { verdict = losing m; size = n }) ≡ measured (makeAnswer s (length M) (length R) (length O))
+        lost-answer : accepted (record { verdict = losing m; size = n }) ≡ measured (makeAnswer s (length M) (length R) (length O))
         unfolding measured measureOf onAccepted
         lost-answer = rw lost-is (ap (λ k. accepted (record { verdict = losing m; size = k })) (text-length (losingSheet G m) O O′ n lost-fits text))
 
-        pub lost-output : O′ ≡ outputAfter (makeAnswer s (length M) (length R) (length O)) O
+        lost-output : O′ ≡ outputAfter (makeAnswer s (length M) (length R) (length O)) O
         unfolding outputAfter
         lost-output = rw lost-is (text-over (losingSheet G m) O O′ n lost-fits text)
+
+        pub makes-lost : Promised (losing m) O′ n
+        makes-lost = (lost-answer, (em, (er, lost-output)))
 
     -- solving does not refuse what was read and has room
     pub no-refusal : {A : Type 0} (n : ℕ) → y ≡ solution.Refused n → A
     no-refusal n ex =
         absurd (refused-not-accepted (sym (ap solving.meaning ex) ∙ ey ∙ solve-is))
 
-pub ruleset make-reads = (needs, solved-winning, losing-short, losing-inside, won-answer, won-output, lost-answer, lost-output, no-refusal)
+pub ruleset make-reads = (needs, ready-small, solved-winning, losing-short, losing-inside)
 
--- making: a refusal alters nothing
+-- the contract of making, for an answer and what the buffers hold after it, from what solving leaves in them
 
-module _ (a : Answer Made) (n : ℕ) (e : a ≡ refused n) where
-  pub refused-answer : (x : ℕ) → x ≡ n → refused x ≡ measured a
-  unfolding measured onAccepted
-  refused-answer x f = rw (e, f)
+abbrev pub Kept : Answer Made → Answer Measured → List ℕ → List ℕ → List ℕ → List ℕ → List ℕ → List ℕ → List ℕ → List ℕ → Type 0
+Kept a r M M₂ M′ R R₂ R′ O O′ = (r ≡ measured a) × ((M′ ≡ ifMade a M M₂) × ((R′ ≡ ifMade a R R₂) × (O′ ≡ outputAfter a O)))
 
-  pub refused-buffer : (before solved : List ℕ) → before ≡ ifMade a before solved
-  unfolding ifMade
-  refused-buffer before solved = rw e
+-- a refusal alters nothing
+pub refuses : (a : Answer Made) (n : ℕ) → a ≡ refused n → (x : ℕ) → x ≡ n → (M M₂ R R₂ O : List ℕ) → Kept a (refused x) M M₂ M R R₂ R O O
+unfolding measured onAccepted ifMade outputAfter
+refuses a n e x f M M₂ R R₂ O = (rw (e, f), (rw e, (rw e, rw e)))
 
-  pub refused-output : (buffer : List ℕ) → buffer ≡ outputAfter a buffer
-  unfolding outputAfter
-  refused-output buffer = rw e
+-- where it was accepted, the buffers are as in solving
+pub accepts : (a : Answer Made) (y : Made) → a ≡ accepted y → (r : Answer Measured) (M M₂ M′ R R₂ R′ O O′ : List ℕ) → r ≡ measured a → M′ ≡ M₂ → R′ ≡ R₂
+    → O′ ≡ outputAfter a O → Kept a r M M₂ M′ R R₂ R′ O O′
+unfolding ifMade
+accepts a y e r M M₂ M′ R R₂ R′ O O′ f g h i = (f, (g ∙ rw e, (h ∙ rw e, i)))
 
 -- checks 8 and 9 of a sheet that was read
 
@@ -420,4 +455,4 @@ module _ (s : List ℕ) (y : Reading) (ey : meaning y ≡ readAnswer s) (M R O :
       pub short-ready : x ≡ 0 → Ready s l M R O
       short-ready h = short-passes s l M R O read-accepted (sym short-is ∙ h)
 
-pub ruleset makes = (needs, refused-answer, refused-buffer, refused-output, reading-refused, read-small, short-refused, short-ready)
+pub ruleset makes = (needs, read-small, short-ready)

@@ -1,3 +1,4 @@
+-- `header` meets its contract: the bytes are written as the definition has them. Assumes nothing.
 use borrow.Author.Needs.{needs}
 use Rattle.table.specs.Making.{headerBytes}
 use Rattle.table.proofs.making.header.Statement.{statement}

@@ -1,5 +1,6 @@
+-- `make_read` meets its contract, by the laws of MakeLaws.antt. Assumes nothing.
 use borrow.Author.Needs.{needs}
-use Rattle.table.proofs.MakeLaws.{make-reads}
+use Rattle.table.proofs.MakeLaws.{make-reads, makes-won, makes-lost, no-refusal}
 use Rattle.table.proofs.making.make_read.Statement.{statement}
 use Rattle.table.proofs.making.make_read.Tie as tie
 
@@ -31,7 +32,12 @@ same-length-3 : tie.Need-same-length-3
 same-length-3 c = search needs
 
 returns : tie.Need-returns
-returns c = search make-reads
+returns c =
+    let t = c .before .before .before .before .before .before in
+    let s = t .before .before .before .before .before .before in
+    let a = s .before .before .before .before .before .before .before in
+    makes-won _ _ (a .args .masks .now) (a .args .ranks .now) _ (a .pre) _ (s .solve .ensures .0) _ _ (s .solve .ensures .1 .0)
+    (s .solve .ensures .1 .1) _ (t .enum-told .given .1) _ _ (c .before .before .write-table .ensures)
 
 same-length-4 : tie.Need-same-length-4
 same-length-4 c = search needs
@@ -43,7 +49,12 @@ same-length-6 : tie.Need-same-length-6
 same-length-6 c = search needs
 
 returns-2 : tie.Need-returns-2
-returns-2 c = search make-reads
+returns-2 c =
+    let t = c .before .before .before .before .before in
+    let s = t .before .before .before .before .before .before .before in
+    let a = s .before .before .before .before .before .before .before in
+    makes-lost _ _ (a .args .masks .now) (a .args .ranks .now) _ (a .pre) _ (s .solve .ensures .0) _ _ (s .solve .ensures .1 .0)
+    (s .solve .ensures .1 .1) _ _ (t .before .solution .given .1) _ _ (c .before .before .write-ranks .ensures)
 
 same-length-7 : tie.Need-same-length-7
 same-length-7 c = search needs
@@ -52,7 +63,11 @@ same-length-8 : tie.Need-same-length-8
 same-length-8 c = search needs
 
 returns-3 : tie.Need-returns-3
-returns-3 c = search make-reads
+returns-3 c =
+    let s = c .before .before .before .before .before .before .before in
+    let a = s .before .before .before .before .before .before .before in
+    no-refusal _ _ (a .args .masks .now) (a .args .ranks .now) (a .args .out .now) (a .pre) _ (s .solve .ensures .0) _ _ (s .solve .ensures .1 .0)
+    (s .solve .ensures .1 .1) _ (c .before .solution2 .given .1)
 
 pub make-read-spec : {M : Type 1} → statement M
 make-read-spec =

@@ -1,3 +1,4 @@
+-- `short_buffer` meets its contract, by the laws of MakeLaws.antt. Assumes nothing.
 use borrow.Author.Needs.{needs}
 use Rattle.table.proofs.MakeLaws.{shorts}
 use Rattle.table.proofs.making.short_buffer.Statement.{statement}

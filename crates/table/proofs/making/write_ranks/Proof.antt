@@ -1,3 +1,4 @@
+-- `write_ranks` meets its contract, by the laws of MakeLaws.antt. Assumes nothing.
 use borrow.Author.Needs.{needs}
 use Rattle.table.proofs.MakeLaws.{rank-sheets}
 use Rattle.table.proofs.making.write_ranks.Statement.{statement}
@@ -13,7 +14,7 @@ slice-aggregate-put-ranks : tie.Need-slice-aggregate-put-ranks
 slice-aggregate-put-ranks c = search needs
 
 slice-aggregate-put-ranks-2 : tie.Need-slice-aggregate-put-ranks-2
-slice-aggregate-put-ranks-2 c = ?
+slice-aggregate-put-ranks-2 c = search rank-sheets
 
 put-ranks-requires : tie.Need-put-ranks-requires
 put-ranks-requires c κs = search rank-sheets

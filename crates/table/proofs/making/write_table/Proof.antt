@@ -1,3 +1,4 @@
+-- `write_table` meets its contract, by the laws of MakeLaws.antt. Assumes nothing.
 use borrow.Author.Needs.{needs}
 use Rattle.table.proofs.MakeLaws.{table-sheets}
 use Rattle.table.proofs.making.write_table.Statement.{statement}
