@@ -1,0 +1,69 @@
+-- Opening, hearing a report and giving a command, over what a table sheet says and over its bytes: document 01's "Opening the
+-- cabin", "Hearing a report" and "Giving the command", each a chain of checks in the order written. Assumes nothing.
+use Prim.Native.Nat.{ℕ, _+_, _-_, _*_, _/_}
+use mathlib.Core.Bool.{Bool, not}
+use mathlib.Core.List.{List, [], _∷_}
+use lib.Dec.{eqb, leb, ltb}
+use lib.ListN.{take}
+use Rattle.theory.specs.Fold.{either}
+use Rattle.theory.specs.Answer.{Answer, refused, accepted, check, onAccepted}
+use Rattle.theory.specs.Exact.{Command, missing, give, commandAt}
+use Rattle.table.specs.TableSheet.{TableSheet, tableAnswer}
+use Rattle.controller.specs.State.{million, opened, slotAt, stateOk, observed, gaveState}
+use Rattle.controller.specs.declared.state.Slot.{Slot}
+use Rattle.controller.specs.declared.state.State.{State}
+
+-- a slot that says nothing else than position p
+unfoldable pub agrees : Slot → ℕ → Bool
+agrees w p = either (not (w .known)) (eqb (w .position) p)
+
+-- "20; 16: position over the highest; 17: index below 2i - d (never below 0); 18: index over 2i; 19: that index heard with
+-- another position"
+unfoldable pub observeWith : TableSheet → State → ℕ → ℕ → Answer State
+observeWith x s k p =
+    check (stateOk x s) 20
+    (check (leb p (x .highest)) 16
+    (check (leb (2 * s .turn) (k + x .delay)) 17
+    (check (leb k (2 * s .turn)) 18 (check (agrees (slotAt s (2 * s .turn - k)) p) 19 (accepted (observed s k p))))))
+
+-- the word of these actions, newest first
+unfoldable pub wordOf : ℕ → List ℕ → ℕ
+wordOf A [] = 0
+wordOf A (a ∷ older) = wordOf A older * A + a
+
+-- an action, and the state after it
+pub record Gave : Type 0 where
+  pub action : ℕ
+  pub state : State
+
+-- "14: the mask of that report's pair is 0"
+unfoldable pub obey : TableSheet → State → Command → Answer Gave
+obey x s missing = refused 14
+obey x s (give a) = accepted (record { action = a; state = gaveState (x .delay) s a })
+
+-- the command of the state's turn, by the rule of the exact play: from the report of index 2i - d and the last L commands.
+-- "Fresher reports have no say"
+unfoldable pub commandIn : TableSheet → State → Command
+commandIn x s =
+    commandAt (x .actions) (x .delay) (x .table) (s .turn) (slotAt s (x .delay) .position)
+    (wordOf (x .actions) (take (x .delay / 2) (s .last)))
+
+-- what refusal 13 leaves: 2i is below d, or index 2i - d is heard
+unfoldable pub reported : TableSheet → State → Bool
+reported x s = either (ltb (2 * s .turn) (x .delay)) (slotAt s (x .delay) .known)
+
+-- "20; 15: turn is 1,000,000; 13: 2i is at least d and index 2i - d is unheard; 14"
+unfoldable pub actWith : TableSheet → State → Answer Gave
+actWith x s =
+    check (stateOk x s) 20
+    (check (not (eqb (s .turn) million)) 15 (check (reported x s) 13 (obey x s (commandIn x s))))
+
+-- the operations over a sheet's bytes: each reads them, "10 to 12", on every call
+unfoldable pub openAnswer : List ℕ → Answer State
+openAnswer t = onAccepted (tableAnswer t) (λ x. accepted opened)
+
+unfoldable pub observeAnswer : List ℕ → State → ℕ → ℕ → Answer State
+observeAnswer t s k p = onAccepted (tableAnswer t) (λ x. observeWith x s k p)
+
+unfoldable pub actAnswer : List ℕ → State → Answer Gave
+actAnswer t s = onAccepted (tableAnswer t) (λ x. actWith x s)

@@ -1,0 +1,2 @@
+// The controller: document 01's cabin, over the bytes of a table sheet and a state by value (refusals 10 to 20).
+pub mod state; // the state

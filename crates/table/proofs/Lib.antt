@@ -1,0 +1,9 @@
+-- The theorems over specs/, and laws of them on which the proofs of the functions rest.
+pub mod More
+pub mod Sheets
+pub mod Readable
+pub mod Made
+pub mod SizeLaws
+pub mod TableLaws
+pub mod WriteLaws
+pub mod MakeLaws
