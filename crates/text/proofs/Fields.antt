@@ -147,7 +147,8 @@ pub word-empty : (a l v : ℕ) (p : Page) {q : Page} → l ≡ 0 → q ≡ puts 
 unfolding wordText
 word-empty a l v p e g = simp (eq-eqb l 0 e) g
 
-pub word-digits : (a l v : ℕ) (p : Page) {q : Page} → (l ≡ 0 → ⊥) → q ≡ puts p (textsFrom (digitText a l v) 0 l) → q ≡ puts p (wordText a l v)
+pub word-digits : (a l v : ℕ) (p : Page) {q : Page} → (l ≡ 0 → ⊥) → q ≡ puts p (textsFrom (digitText a l v) 0 l)
+    → q ≡ puts p (wordText a l v)
 unfolding wordText
 word-digits a l v p h g = simp (ne-eqb l 0 h) g
 
@@ -155,7 +156,8 @@ pub bit-is : (m c : ℕ) {s : ℕ} → s ≡ m / 2 ^ c → eqb (s % 2) 1 ≡ bit
 unfolding bit
 bit-is m c e = ap (λ s. eqb (s % 2) 1) e
 
-pub action-in : (m c : ℕ) (p : Page) {b : Bool} {q : Page} → b ≡ bit m c → b ≡ true → q ≡ puts p (glyph c ∷ []) → q ≡ puts p (actionText m c)
+pub action-in : (m c : ℕ) (p : Page) {b : Bool} {q : Page} → b ≡ bit m c → b ≡ true → q ≡ puts p (glyph c ∷ [])
+    → q ≡ puts p (actionText m c)
 unfolding actionText
 action-in m c p e t g = simp (sym e ∙ t) g
 
@@ -173,7 +175,8 @@ unfolding positionText
 position-is a l k p {n} h e f =
     after p (fieldText (ascii "pair ") n) (ascii " ") e f ∙ ap (λ x. puts p (fieldText (ascii "pair ") x ++ (ascii " "))) h
 
-pub node-is : (a l k : ℕ) (p : Page) {q r : Page} → q ≡ puts p (positionText a l k) → r ≡ puts q (wordText a l k) → r ≡ puts p (nodeText a l k)
+pub node-is : (a l k : ℕ) (p : Page) {q r : Page} → q ≡ puts p (positionText a l k) → r ≡ puts q (wordText a l k)
+    → r ≡ puts p (nodeText a l k)
 unfolding nodeText
 node-is a l k p e f =
     after p (positionText a l k) (wordText a l k) e f ∙ ap (λ x. puts p (positionText a l k ++ x)) (sym (word-last a l k))

@@ -19,11 +19,13 @@ use Rattle.text.specs.Lines.{startAt, startLines, allowAt, allowLines, r
 use Rattle.text.proofs.Page.{after, puts-nil, length-texts}
 use Rattle.text.proofs.Fields.{length-word, length-actions, length-field, length-node}
 
-pub field-line : (name : List ℕ) (n : ℕ) (p : Page) {q r : Page} → q ≡ puts p (fieldText name n) → r ≡ puts q (ascii "\n") → r ≡ puts p (fieldLine name n)
+pub field-line : (name : List ℕ) (n : ℕ) (p : Page) {q r : Page} → q ≡ puts p (fieldText name n) → r ≡ puts q (ascii "\n")
+    → r ≡ puts p (fieldLine name n)
 unfolding fieldLine
 field-line name n p e f = after p (fieldText name n) (ascii "\n") e f
 
-pub head-is : (d n a : ℕ) (p : Page) {q r s : Page} → q ≡ puts p (fieldText (ascii "lag ") d) → r ≡ puts q (fieldText (ascii " positions ") n)
+pub head-is : (d n a : ℕ) (p : Page) {q r s : Page} → q ≡ puts p (fieldText (ascii "lag ") d)
+    → r ≡ puts q (fieldText (ascii " positions ") n)
     → s ≡ puts r (fieldLine (ascii " commands ") a) → s ≡ puts p (headLine d n a)
 unfolding headLine
 head-is d n a p {q} e f g =
@@ -43,7 +45,8 @@ allow-is a l k mask p {q} {r} e f g h =
     after p (nodeText a l k) ((ascii " allow ") ++ (setText a mask ++ (ascii "\n"))) e
     (after q (ascii " allow ") (setText a mask ++ (ascii "\n")) f (after r (setText a mask) (ascii "\n") g h))
 
-pub rank-is : (a l k rank : ℕ) (p : Page) {q r : Page} → q ≡ puts p (nodeText a l k) → r ≡ puts q (fieldLine (ascii " rank ") rank) → r ≡ puts p (rankLine a l k rank)
+pub rank-is : (a l k rank : ℕ) (p : Page) {q r : Page} → q ≡ puts p (nodeText a l k)
+    → r ≡ puts q (fieldLine (ascii " rank ") rank) → r ≡ puts p (rankLine a l k rank)
 unfolding rankLine
 rank-is a l k rank p e f = after p (nodeText a l k) (fieldLine (ascii " rank ") rank) e f
 
@@ -121,7 +124,8 @@ length-allow a l k mask d w h g i =
     let y : length (setText a mask) ≤ a = length-actions a mask in
     simp length-append (omega arith)
 
-pub length-rank : (a l k rank d w j : ℕ) → k / a ^ l < 10 ^ suc d → 1 ≤ w → l ≤ w → rank < 10 ^ suc j → length (rankLine a l k rank) ≤ 15 + d + w + j
+pub length-rank : (a l k rank d w j : ℕ) → k / a ^ l < 10 ^ suc d → 1 ≤ w → l ≤ w → rank < 10 ^ suc j
+    → length (rankLine a l k rank) ≤ 15 + d + w + j
 unfolding rankLine
 length-rank a l k rank d w j h g i f =
     let x : length (nodeText a l k) ≤ 7 + d + w = length-node a l k d w h g i in
@@ -143,7 +147,8 @@ unfolding startLines
 length-starts a l flags w h g =
     length-texts (startAt a l flags) 0 (length flags) (7 + w) (λ v x y. length-start-at a l flags v w h g)
 
-length-allow-at : (a l : ℕ) (masks : List ℕ) (k d w : ℕ) → k / a ^ l < 10 ^ suc d → 1 ≤ w → l ≤ w → length (allowAt a l masks k) ≤ 15 + d + w + a
+length-allow-at : (a l : ℕ) (masks : List ℕ) (k d w : ℕ) → k / a ^ l < 10 ^ suc d → 1 ≤ w → l ≤ w
+    → length (allowAt a l masks k) ≤ 15 + d + w + a
 unfolding allowAt
 length-allow-at a l masks k d w h g i =
     ⊎-elim
@@ -171,7 +176,8 @@ module _ (a l : ℕ) (xs : List ℕ) (d w : ℕ) (some : 0 < a) (nodes : length 
       length-texts (allowAt a l xs) 0 (length xs) (15 + d + w + a)
       (λ k x y. length-allow-at a l xs k d w (position-below k (omega arith)) one short)
 
-  pub length-ranks : (j : ℕ) → ((k : ℕ) → k < length xs → getD xs k 0 < 10 ^ suc j) → length (rankLines a l xs) ≤ length xs * (15 + d + w + j)
+  pub length-ranks : (j : ℕ) → ((k : ℕ) → k < length xs → getD xs k 0 < 10 ^ suc j)
+      → length (rankLines a l xs) ≤ length xs * (15 + d + w + j)
   unfolding rankLines
   length-ranks j h =
       length-texts (rankAt a l xs) 0 (length xs) (15 + d + w + j)

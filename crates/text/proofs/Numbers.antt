@@ -65,7 +65,8 @@ decimal-more n h =
 pub number-one : (n : ℕ) (p : Page) {q : Page} → n < 10 → q ≡ puts p (glyph n ∷ []) → q ≡ puts p (decimalOf n)
 number-one n p h e = e ∙ ap (puts p) (sym (decimal-one n h))
 
-pub number-more : (n : ℕ) (p : Page) {q r : Page} → 10 ≤ n → q ≡ puts p (decimalOf (n / 10)) → r ≡ puts q (glyph (n % 10) ∷ []) → r ≡ puts p (decimalOf n)
+pub number-more : (n : ℕ) (p : Page) {q r : Page} → 10 ≤ n → q ≡ puts p (decimalOf (n / 10)) → r ≡ puts q (glyph (n % 10) ∷ [])
+    → r ≡ puts p (decimalOf n)
 number-more n p h e f = after p (decimalOf (n / 10)) (glyph (n % 10) ∷ []) e f ∙ ap (puts p) (sym (decimal-more n h))
 
 -- bytes
@@ -74,7 +75,8 @@ pub bytes-two : (n : ℕ) → bytesOf 2 n ≡ n % 256 ∷ n / 256 % 256 ∷ []
 unfolding bytesOf
 bytes-two n = refl
 
-pub bytes2-is : (n : ℕ) (p : Page) {x y : ℕ} {q r : Page} → x ≡ n % 256 → q ≡ puts p (x ∷ []) → y ≡ n / 256 % 256 → r ≡ puts q (y ∷ []) → r ≡ puts p (bytesOf 2 n)
+pub bytes2-is : (n : ℕ) (p : Page) {x y : ℕ} {q r : Page} → x ≡ n % 256 → q ≡ puts p (x ∷ []) → y ≡ n / 256 % 256
+    → r ≡ puts q (y ∷ []) → r ≡ puts p (bytesOf 2 n)
 unfolding bytesOf
 bytes2-is n p {x} {y} a e b f = after p (x ∷ []) (y ∷ []) e f ∙ ap (λ u. puts p (u ∷ y ∷ [])) a ∙ ap (λ u. puts p (n % 256 ∷ u ∷ [])) b
 

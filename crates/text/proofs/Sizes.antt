@@ -34,5 +34,6 @@ module _ (a l : ℕ) (xs : List ℕ) (some : 0 < a) (short : l ≤ 3) (positions
 
   pub ranks-size : ((k : ℕ) → k < length xs → getD xs k 0 < 65536) → length (rankLines a l xs) ≤ 393216
   ranks-size h =
-      let x : length (rankLines a l xs) ≤ length xs * 24 = length-ranks a l xs 2 3 some within (omega arith) short 4 (λ k g. let b : getD xs k 0 < 65536 = h k g in omega arith) in
+      let j : (k : ℕ) → k < length xs → getD xs k 0 < 10 ^ 5 = λ k g. let b : getD xs k 0 < 65536 = h k g in omega arith in
+      let x : length (rankLines a l xs) ≤ length xs * 24 = length-ranks a l xs 2 3 some within (omega arith) short 4 j in
       omega arith
