@@ -1,1 +1,4 @@
 -- The theorems over specs/.
+pub mod Sheets
+pub mod Readable
+pub mod Made

@@ -1,7 +1,7 @@
 -- Making a sheet: document 01's winning and losing sheets byte by byte, its answer to every list of bytes and all buffers, and
 -- what the buffers hold after it. Assumes nothing.
 use Prim.Native.Nat.{ℕ, _+_, _-_, _*_}
-use mathlib.Core.List.{List, [], _∷_, _++_}
+use mathlib.Core.List.{List, [], _∷_}
 use lib.Dec.{leb}
 use lib.ListN.{length}
 use Rattle.theory.specs.Answer.{Answer, refused, accepted, check, onAccepted}
@@ -11,7 +11,7 @@ use Rattle.theory.specs.Delay.{Verdict, wins, losing, initialWords, arena, flag
 use Rattle.sheet.specs.Limits.{width}
 use Rattle.sheet.specs.Reading.{delayOf}
 use Rattle.sheet.specs.Meant.{gameOf}
-use Rattle.text.specs.Numbers.{bytesOf}
+use Rattle.text.specs.Numbers.{shortsText}
 use Rattle.solver.specs.Solving.{solveAnswer, over}
 use Rattle.table.specs.Writing.{part, sheetOf}
 use Rattle.table.specs.declared.making.Making.{Making}
@@ -25,14 +25,9 @@ headerOf G d = G .start ∷ G .actions ∷ d ∷ (G .positions - 1) ∷ []
 unfoldable pub winningSheet : Game → ℕ → List ℕ
 winningSheet G d = sheetOf width (part 83 (headerOf G d) ∷ part 87 (flags G d) ∷ part 84 (masks (arena G d)) ∷ [])
 
--- "two bytes of rank, low byte first, for each pair by pair number"
-unfoldable pub rankBytes : List ℕ → List ℕ
-rankBytes [] = []
-rankBytes (r ∷ ranks) = bytesOf 2 r ++ rankBytes ranks
-
--- "A losing sheet has S, R", with m as its lag
+-- "A losing sheet has S, R", with m as its lag; R has "two bytes of rank, low byte first, for each pair by pair number"
 unfoldable pub losingSheet : Game → ℕ → List ℕ
-losingSheet G m = sheetOf width (part 83 (headerOf G m) ∷ part 82 (rankBytes (finalRanks (arena G m))) ∷ [])
+losingSheet G m = sheetOf width (part 83 (headerOf G m) ∷ part 82 (shortsText (finalRanks (arena G m))) ∷ [])
 
 -- the sheet made, with m where the game is losing
 pub data Made : Type 0 where
