@@ -1,1 +1,5 @@
 -- The theorems over specs/.
+pub mod More
+pub mod Answers
+pub mod Progress
+pub mod Accuracy
