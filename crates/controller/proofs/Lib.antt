@@ -3,3 +3,4 @@ pub mod More
 pub mod Answers
 pub mod Progress
 pub mod Accuracy
+pub mod Cases

@@ -2,3 +2,4 @@
 pub mod State
 pub mod Controller
 pub mod Accuracy
+pub mod Cases
