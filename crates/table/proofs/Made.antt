@@ -1,24 +1,22 @@
 -- What an accepted making says: the sheet is the game's own, a winning one is readable, and it fits the output that check 9
 -- asks for. Assumes nothing.
-use Prim.Native.Nat.{ℕ, suc, _+_, _*_, _/_, _≤_, _<_}
+use Prim.Native.Nat.{ℕ, _+_, _*_, _/_, _≤_}
 use mathlib.Core.Path.{_≡_, sym, ap, _∙_}
-use mathlib.Core.Bool.{true, false}
-use mathlib.Core.Logic.{⊎-elim}
+use mathlib.Core.Bool.{true}
 use mathlib.Core.List.{List, [], _∷_}
 use native.Mathlib.Omega.{arith}
 use native.Mathlib.Nat.{mul-le-mul-left, pow-le-pow-right}
 use lib.ListN.{length}
 use borrow.Author.Tests.{leb-true}
-use Rattle.theory.specs.Answer.{Answer, accepted, refused}
+use Rattle.theory.specs.Answer.{accepted}
 use Rattle.theory.specs.Game.{Game, Legal}
 use Rattle.theory.specs.Rounds.{finalRanks}
-use Rattle.theory.specs.Delay.{Verdict, wins, losing, winning, words, initialWords, arena, answerBy, answer}
-use Rattle.theory.proofs.Fold.{bool}
+use Rattle.theory.specs.Delay.{Verdict, wins, losing, winning, words, arena, answer}
 use Rattle.theory.proofs.Answer.{check-accepted, accepted-on}
 use Rattle.theory.proofs.Rounds.{final-length}
 use Rattle.theory.proofs.Tables.{legal-actions}
 use Rattle.sheet.specs.Form.{entrySize}
-use Rattle.sheet.specs.Reading.{readAnswer, delayOf, actionCount}
+use Rattle.sheet.specs.Reading.{readAnswer, delayOf}
 use Rattle.sheet.specs.Meant.{gameOf}
 use Rattle.sheet.proofs.Accepted.{read-is, ranges, arena-nodes}
 use Rattle.sheet.proofs.Legality.{legal-game}
@@ -28,7 +26,8 @@ use Rattle.text.proofs.Numbers.{length-shorts}
 use Rattle.solver.specs.Solving.{solveAnswer}
 use Rattle.table.specs.Writing.{part}
 use Rattle.table.specs.TableSheet.{tableAnswer}
-use Rattle.table.specs.Making.{headerOf, winningSheet, losingSheet, Made, won, lost, madeOf, outputSize, makeAnswer}
+use Rattle.table.specs.Making.{headerOf, winningSheet, losingSheet, Made, won, madeOf, outputSize, makeAnswer}
+use Rattle.table.proofs.More.{accepted-same, wins-winning}
 use Rattle.table.proofs.Sheets.{before, length-sheet}
 use Rattle.table.proofs.Readable.{Ranged, tableFor, winning-length, made-readable}
 
@@ -44,18 +43,6 @@ sheet-ranged s l e =
       short-delay = r .short-delay;
       few-nodes = rw (arena-nodes s (delayOf s)) (r .few-nodes);
     }
-
-accepted-same : {A : Type 0} {x y : A} → accepted x ≡ accepted y → x ≡ y
-accepted-same e = cc
-
--- a verdict is reached by the asked delay's test
-wins-winning : (G : Game) (d : ℕ) → answer G d ≡ wins → winning G d ≡ true
-unfolding answer answerBy
-wins-winning G d e =
-    ⊎-elim
-    (λ (w : winning G d ≡ true). w)
-    (λ (l : winning G d ≡ false). let z : _≡_ {A = ℕ} 0 1 = cc (rw l at e) in absurd (omega arith))
-    (bool (winning G d))
 
 -- an accepted making that won
 pub record Won (s t : List ℕ) : Type 0 where

@@ -1,30 +1,29 @@
 -- What making writes for a winning game is a readable table sheet that says what it should: the game's start, actions, delay,
 -- highest position, flags and masks. Assumes nothing.
-use Prim.Native.Nat.{ℕ, suc, _+_, _-_, _*_, _/_, _^_, _≤_, _<_}
+use Prim.Native.Nat.{ℕ, _+_, _-_, _*_, _/_, _^_, _≤_, _<_}
 use mathlib.Core.Path.{_≡_, refl, sym, ap, _∙_}
 use mathlib.Core.Bool.{true}
 use mathlib.Core.List.{List, [], _∷_}
 use native.Mathlib.Omega.{arith}
-use native.Mathlib.Nat.{le-trans, pow-le-pow-left, pow-le-pow-right}
 use lib.ListN.{length, getD}
 use borrow.Author.Tests.{eq-eqb, le-leb, lt-ltb}
-use Rattle.theory.specs.Fold.{anyBelow}
-use Rattle.theory.specs.Answer.{Answer, accepted, check, onAccepted}
+use Rattle.theory.specs.Answer.{accepted, onAccepted}
 use Rattle.theory.specs.Game.{Game, Legal}
 use Rattle.theory.specs.Strategy.{initialLength}
 use Rattle.theory.specs.Rounds.{finalRanks, masks}
 use Rattle.theory.specs.Delay.{initialWords, words, arena, goodWith, winning, flags}
-use Rattle.theory.specs.Table.{Table, ours, flagged}
+use Rattle.theory.specs.Table.{ours, flagged}
 use Rattle.theory.proofs.Fold.{both-true, all-below, any-holds, any-some}
 use Rattle.theory.proofs.Answer.{check-passed}
 use Rattle.theory.proofs.Tables.{legal-actions}
 use Rattle.theory.proofs.Ours.{good-flagged, ours-fits}
 use Rattle.sheet.specs.Limits.{mostPositions, mostActions, mostDelay, mostNodes}
-use Rattle.sheet.specs.Form.{entrySize, contentsOk, placedAt, partAt, bodyOf}
+use Rattle.sheet.specs.Form.{entrySize, contentsOk, bodyOf}
 use Rattle.sheet.specs.Checks.{nodesOf}
-use Rattle.table.specs.Writing.{Part, part, sheetOf}
+use Rattle.table.specs.Writing.{Part, part}
 use Rattle.table.specs.TableSheet.{TableSheet, tableLetters, tableLayout, decode, tableNodes, numbersOk, belowAt, bytesBelow, bodiesOk, shapeAnswer, someFlagged, tableAnswer}
 use Rattle.table.specs.Making.{headerOf, winningSheet}
+use Rattle.table.proofs.More.{power-bound}
 use Rattle.table.proofs.Sheets.{before, length-sheet, body-is, contents-ok}
 
 -- what checks 2, 3 and 7 leave of a game's numbers and its delay
@@ -45,11 +44,7 @@ winningParts G d = part 83 (headerOf G d) ∷ part 87 (flags G d) ∷ part 84 (m
 module _ (G : Game) (d : ℕ) (ranged : Ranged G d) where
   few-words : initialWords G d ≤ 512
   unfolding initialWords
-  few-words =
-      let a : G .actions ^ initialLength d ≤ 8 ^ initialLength d = pow-le-pow-left (ranged .few-actions) (initialLength d) in
-      let i : initialLength d ≤ 3 = omega (arith, ranged .short-delay) in
-      let b : 8 ^ initialLength d ≤ 8 ^ 3 = pow-le-pow-right (omega arith) i in
-      le-trans a b
+  few-words = power-bound (G .actions) (initialLength d) (ranged .few-actions) (omega (arith, ranged .short-delay))
 
   flags-length : length (flags G d) ≡ initialWords G d
   unfolding ours

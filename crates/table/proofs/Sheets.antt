@@ -5,7 +5,7 @@ use mathlib.Core.Path.{_≡_, refl, sym, ap, _∙_}
 use mathlib.Core.Bool.{true}
 use mathlib.Core.List.{List, [], _∷_, _++_, map, append-assoc}
 use native.Mathlib.Omega.{arith}
-use native.Mathlib.Nat.{pow-suc, pow-zero, div-lt-iff-lt-mul, mod-add-div, mul-suc, mul-zero}
+use native.Mathlib.Nat.{pow-suc, pow-zero, mod-add-div, mul-suc, mul-zero}
 use lib.ListN.{length, getD, take, drop, length-append, length-map, List·getD-map}
 use lib.Seq.{getD-at, drop-at, take-append-seam}
 use borrow.Author.Tests.{eq-eqb, le-leb}

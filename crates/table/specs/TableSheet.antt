@@ -41,16 +41,20 @@ tableLayout s =
       masks = placedAt width s 2;
     }
 
--- what the parts of a sheet at these places say
-abbrev pub tableAt : List ℕ → TableLayout → TableSheet
-tableAt s l =
+-- what these numbers, W and T bodies say
+abbrev pub says : TableLayout → List ℕ → List ℕ → TableSheet
+says l flags masks =
     record {
       start = l .start;
       actions = l .actions;
       delay = l .delay;
       highest = l .highest;
-      table = record { flags = partAt s (l .flags); masks = partAt s (l .masks) };
+      table = record { flags = flags; masks = masks };
     }
+
+-- what the parts of a sheet at these places say
+abbrev pub tableAt : List ℕ → TableLayout → TableSheet
+tableAt s l = says l (partAt s (l .flags)) (partAt s (l .masks))
 
 unfoldable pub decode : List ℕ → TableSheet
 decode s = tableAt s (tableLayout s)

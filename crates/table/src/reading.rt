@@ -1,6 +1,25 @@
 // Reading a table sheet: document 01's refusals 10 to 12, in the order written.
 use sheet::form::Place;
+use sheet::form::body;
+use sheet::form::byte;
+use sheet::form::contents_ok;
+use sheet::form::part;
+use sheet::form::placed;
+use sheet::form::wide;
 use sheet::refusal::Refusal;
+use sheet::size::power;
+ghost use mathlib.Core.Path.{_≡_};
+ghost use mathlib.Core.List.{[]};
+ghost use Prim.Native.Nat.{_+_, _≤_};
+ghost use Rattle.sheet.specs.Limits.{mostActions, mostDelay};
+ghost use Rattle.sheet.specs.Checks.{nodesOf};
+ghost use Rattle.table.specs.TableSheet.{tableLayout, says, numbersOk, belowAt, bytesBelow, bodiesOk, shapeAnswer, someFlagged, tableAnswer, masksOf, meaning};
+
+const MOST_ACTIONS: u8 = 8;
+
+const MOST_DELAY: u8 = 6;
+
+const MOST_NODES: usize = 16384;
 
 // What an accepted reading carries: the start bytes and the places of the W and T bodies.
 pub struct TableLayout {
@@ -15,4 +34,152 @@ pub struct TableLayout {
 pub enum TableReading {
     Accepted(TableLayout),
     Refused(Refusal),
+}
+
+fn layout_at(s: &[u8]) -> TableLayout
+    ensures { λ r. ⌜ r ≡ tableLayout (now (s .entry)) ⌝ }
+{
+    let h = body(s, 0);
+    let start = byte(h, 0);
+    let actions = byte(h, 1);
+    let delay = byte(h, 2);
+    let highest = byte(h, 3);
+    let flags = placed(s, 1);
+    let masks = placed(s, 2);
+    TableLayout {
+        start,
+        actions,
+        delay,
+        highest,
+        flags,
+        masks,
+    }
+}
+
+// How many nodes a table of these numbers has.
+fn table_nodes(l: TableLayout) -> usize
+    requires { ⌜ (l .actions ≤ mostActions) × (l .delay ≤ mostDelay) ⌝ }
+    ensures { λ r. ⌜ r ≡ nodesOf (l .highest + 1) (l .actions) (l .delay) ⌝ }
+{
+    let words = power(l.actions, wide(l.delay) / 2);
+    (wide(l.highest) + 1) * words
+}
+
+// Check 11, the S body, of so many bytes.
+fn numbers_ok(size: usize, l: TableLayout) -> bool
+    ensures { λ r. ⌜ r ≡ numbersOk size (says l [] []) ⌝ }
+{
+    if size != 4 {
+        return false;
+    }
+    if l.actions < 1 {
+        return false;
+    }
+    if MOST_ACTIONS < l.actions {
+        return false;
+    }
+    if MOST_DELAY < l.delay {
+        return false;
+    }
+    if l.highest < l.start {
+        return false;
+    }
+    table_nodes(l) <= MOST_NODES
+}
+
+fn below_at(bound: usize, b: &[u8], k: usize) -> bool
+    ensures { λ r. ⌜ r ≡ belowAt bound (now (b .entry)) k ⌝ }
+{
+    wide(byte(b, k)) < bound
+}
+
+// Is every byte below the bound?
+fn bytes_below(bound: usize, b: &[u8]) -> bool
+    ensures { λ r. ⌜ r ≡ bytesBelow bound (now (b .entry)) ⌝ }
+{
+    let mut k: usize = 0;
+    while k < b.len() {
+        if !below_at(bound, b, k) {
+            return false;
+        }
+        k += 1;
+    }
+    true
+}
+
+// Check 11, the W and T bodies.
+fn bodies_ok(l: TableLayout, w: &[u8], t: &[u8]) -> bool
+    requires { ⌜ (l .actions ≤ mostActions) × (l .delay ≤ mostDelay) ⌝ }
+    ensures { λ r. ⌜ r ≡ bodiesOk (says l (now (w .entry)) (now (t .entry))) ⌝ }
+{
+    if w.len() != power(l.actions, (wide(l.delay) + 1) / 2) {
+        return false;
+    }
+    if t.len() != table_nodes(l) {
+        return false;
+    }
+    if !bytes_below(2, w) {
+        return false;
+    }
+    bytes_below(power(2, wide(l.actions)), t)
+}
+
+// Checks 10 and 11. Reading ends here where first words don't matter.
+pub fn read_shape(sheet: &[u8]) -> TableReading
+    ensures { λ r. ⌜ meaning (now (sheet .entry)) r ≡ shapeAnswer (now (sheet .entry)) ⌝ }
+{
+    if !contents_ok(sheet, b"SWT") {
+        return TableReading::Refused(Refusal::TableContents);
+    }
+    let l = layout_at(sheet);
+    let h = body(sheet, 0);
+    if !numbers_ok(h.len(), l) {
+        return TableReading::Refused(Refusal::TableShape);
+    }
+    let flags = l.flags;
+    let masks = l.masks;
+    if !bodies_ok(l, part(sheet, flags), part(sheet, masks)) {
+        return TableReading::Refused(Refusal::TableShape);
+    }
+    TableReading::Accepted(l)
+}
+
+// Is some byte of the W body not 0?
+fn some_flagged(w: &[u8]) -> bool
+    ensures { λ r. ⌜ r ≡ someFlagged (record { flags = now (w .entry); masks = [] }) ⌝ }
+{
+    let mut v: usize = 0;
+    while v < w.len() {
+        if w[v] != 0 {
+            return true;
+        }
+        v += 1;
+    }
+    false
+}
+
+// Checks 10 and 11, then 12.
+pub fn read(sheet: &[u8]) -> TableReading
+    ensures { λ r. ⌜ meaning (now (sheet .entry)) r ≡ tableAnswer (now (sheet .entry)) ⌝ }
+{
+    let reading = read_shape(sheet);
+    let TableReading::Accepted(l) = reading else {
+        return reading;
+    };
+    let flags = l.flags;
+    if !some_flagged(part(sheet, flags)) {
+        return TableReading::Refused(Refusal::NoInitialWord);
+    }
+    TableReading::Accepted(l)
+}
+
+// The T body as that part of the caller's sheet: body 2 where the sheet is accepted, and an empty part where it is refused.
+pub fn masks(sheet: &[u8]) -> &[u8]
+    ensures { λ r. ⌜ now r ≡ masksOf (now (sheet .entry)) ⌝ }
+{
+    let reading = read(sheet);
+    let TableReading::Accepted(_) = reading else {
+        return &sheet[..0];
+    };
+    body(sheet, 2)
 }

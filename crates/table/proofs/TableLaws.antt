@@ -1,0 +1,272 @@
+-- Checks 10 to 12 and the masks, as the code of src/reading.rt finds them: the checks before have passed, and one fails.
+-- Assumes nothing.
+use Prim.Native.Nat.{ℕ, _+_, _*_, _/_, _^_, _≤_, _<_}
+use mathlib.Core.Path.{_≡_, refl, sym, _∙_, ap}
+use mathlib.Core.Bool.{Bool, true, false, not}
+use mathlib.Core.List.{List, []}
+use native.Mathlib.Omega.{arith}
+use native.Mathlib.Nat.{mul-le-mul, le-trans}
+use lib.Dec.{leb, ltb}
+use lib.Pow.{pow-mono}
+use lib.ListN.{length, getD}
+use borrow.Author.Needs.{needs}
+use borrow.Author.Tests.{leb-true, le-leb, lt-leb, eq-eqb, ne-eqb}
+use Rattle.theory.specs.Fold.{allBelow, anyBelow}
+use Rattle.theory.specs.Answer.{Answer, refused, accepted, check, onAccepted}
+use Rattle.theory.specs.Strategy.{initialLength}
+use Rattle.theory.specs.Table.{Table, flagged}
+use Rattle.theory.proofs.Answer.{check-passed}
+use Rattle.theory.proofs.Fold.{both-false, both-left, both-right, all-none, all-done, any-none, any-holds, any-again, any-done}
+use Rattle.sheet.proofs.More.{both-none, both-second, failed, passed, all-next, all-stopped}
+use Rattle.sheet.specs.Form.{contentsOk, placedAt, partAt, bodyOf}
+use Rattle.sheet.specs.Checks.{powerTo, nodesOf}
+use Rattle.sheet.specs.Refusals.{numberOf}
+use Rattle.sheet.specs.declared.form.Place.{Place}
+use Rattle.sheet.specs.declared.refusal.Refusal.{Refusal}
+use Rattle.table.specs.TableSheet.{TableSheet, tableLetters, tableLayout, says, tableAt, decode, tableNodes, numbersOk, belowAt, bytesBelow, bodiesOk, shapeAnswer, someFlagged, tableAnswer, masksIn, masksOf, meaning}
+use Rattle.table.specs.declared.reading.TableLayout.{TableLayout}
+use Rattle.table.specs.declared.reading.TableReading.{TableReading}
+use Rattle.table.specs.declared.reading.TableReading.the-variants.{Accepted, Refused}
+use Rattle.table.proofs.More.{power-bound, small-power}
+
+-- the layout
+
+pub layout-is : (s h : List ℕ) (a b d e : ℕ) (x y : Place) → h ≡ bodyOf 2 s 0 → a ≡ getD h 0 0 → b ≡ getD h 1 0 → d ≡ getD h 2 0
+    → e ≡ getD h 3 0 → x ≡ placedAt 2 s 1 → y ≡ placedAt 2 s 2
+    → record { start = a; actions = b; delay = d; highest = e; flags = x; masks = y } ≡ tableLayout s
+unfolding tableLayout
+layout-is s h a b d e x y p q r t u v w = rw (q, r, t, u, p, v, w)
+
+pub ruleset layouts = (needs, layout-is)
+
+-- sizes; u, v are bytes as numbers, w a power
+
+pub nodes-is : (h a d u v w : ℕ) → a ≤ 8 → d ≤ 6 → v ≡ d → w ≡ powerTo a (v / 2) → u ≡ h → (u + 1) * w ≡ nodesOf (h + 1) a d
+unfolding nodesOf
+nodes-is h a d u v w f g e p q =
+    let few : d / 2 ≤ 3 = omega arith in
+    rw (q, p, e) (ap (λ n. (h + 1) * n) (small-power a (d / 2) (power-bound a (d / 2) f few)))
+
+pub nodes-fit : {h u w : ℕ} → u ≡ h → h < 256 → w ≤ 65536 → (u + 1) * w ≤ 256 * 65536
+nodes-fit {h} {u} {w} e f g = let few : u + 1 ≤ 256 = omega arith in mul-le-mul few g
+
+pub ruleset sizes = (needs, nodes-is)
+
+-- 11, the S body
+
+module _ (size : ℕ) (l : TableLayout) where
+  pub size-wrong : (size ≡ 4 → ⊥) → false ≡ numbersOk size (says l [] [])
+  unfolding numbersOk
+  size-wrong e = sym (both-none _ _ (ne-eqb _ _ e))
+
+  pub no-action : l .actions < 1 → false ≡ numbersOk size (says l [] [])
+  unfolding numbersOk
+  no-action e = sym (both-false _ _ (both-none _ _ (lt-leb 1 (l .actions) e)))
+
+  pub many-actions : 8 < l .actions → false ≡ numbersOk size (says l [] [])
+  unfolding numbersOk
+  many-actions e = sym (both-false _ _ (both-false _ _ (both-none _ _ (lt-leb (l .actions) 8 e))))
+
+  pub long-delay : 6 < l .delay → false ≡ numbersOk size (says l [] [])
+  unfolding numbersOk
+  long-delay e = sym (both-false _ _ (both-false _ _ (both-false _ _ (both-none _ _ (lt-leb (l .delay) 6 e)))))
+
+  pub high-start : l .highest < l .start → false ≡ numbersOk size (says l [] [])
+  unfolding numbersOk
+  high-start e =
+      sym (both-false _ _ (both-false _ _ (both-false _ _ (both-false _ _ (both-none _ _ (lt-leb (l .start) (l .highest) e))))))
+
+  pub numbers-end : (r : ℕ) → size ≡ 4 → 1 ≤ l .actions → l .actions ≤ 8 → l .delay ≤ 6 → l .start ≤ l .highest
+      → r ≡ nodesOf (l .highest + 1) (l .actions) (l .delay) → leb r 16384 ≡ numbersOk size (says l [] [])
+  unfolding numbersOk tableNodes
+  numbers-end r e a b d h n =
+      ap (λ m. leb m 16384) n
+      ∙ sym
+      (both-second _ _ (eq-eqb _ _ e)
+      ∙ both-second _ _ (le-leb _ _ a)
+      ∙ both-second _ _ (le-leb _ _ b)
+      ∙ both-second _ _ (le-leb _ _ d)
+      ∙ both-second _ _ (le-leb _ _ h))
+
+pub ruleset numbers = (needs, size-wrong, no-action, many-actions, long-delay, high-start, numbers-end)
+
+-- every byte below a bound
+
+pub below-is : (bound : ℕ) (b : List ℕ) (k x v : ℕ) → x ≡ getD b k 0 → v ≡ x → ltb v bound ≡ belowAt bound b k
+unfolding belowAt
+below-is bound b k x v e f = rw (f, e)
+
+module _ (bound : ℕ) (b : List ℕ) where
+  pub below-stopped : (k : ℕ) (r : Bool) → k < length b → r ≡ belowAt bound b k → not r ≡ true → false ≡ bytesBelow bound b
+  unfolding bytesBelow
+  below-stopped k r h e f = sym (all-stopped (belowAt bound b) k (length b) h e f)
+
+  pub below-done : (k : ℕ) → k ≤ length b → length b ≤ k → allBelow (belowAt bound b) k ≡ true → true ≡ bytesBelow bound b
+  unfolding bytesBelow
+  below-done k l g a = sym (all-done (belowAt bound b) l g a)
+
+pub ruleset below = (needs, all-none, all-next, below-is, below-stopped, below-done)
+
+-- 11, the W and T bodies; v is the delay as a number, x and n what the lengths must be, r a test's result
+
+module _ (l : TableLayout) (w t : List ℕ) where
+  module _ (v x : ℕ) (few : l .actions ≤ 8) (short : l .delay ≤ 6) (ev : v ≡ l .delay) (ex : x ≡ powerTo (l .actions) ((v + 1) / 2)) where
+    words-are : x ≡ l .actions ^ initialLength (l .delay)
+    words-are =
+        let n : (l .delay + 1) / 2 ≤ 3 = omega arith in
+        ex
+        ∙ ap (λ d. powerTo (l .actions) ((d + 1) / 2)) ev
+        ∙ small-power (l .actions) ((l .delay + 1) / 2) (power-bound (l .actions) ((l .delay + 1) / 2) few n)
+
+    pub words-wrong : (length w ≡ x → ⊥) → false ≡ bodiesOk (says l w t)
+    unfolding bodiesOk
+    words-wrong e = sym (both-none _ _ (ne-eqb _ _ (λ f. e (f ∙ sym words-are))))
+
+    module _ (n : ℕ) (en : n ≡ nodesOf (l .highest + 1) (l .actions) (l .delay)) where
+      pub nodes-wrong : (length t ≡ n → ⊥) → false ≡ bodiesOk (says l w t)
+      unfolding bodiesOk tableNodes
+      nodes-wrong e = sym (both-false _ _ (both-none _ _ (ne-eqb _ _ (λ f. e (f ∙ sym en)))))
+
+      module _ (r : Bool) (er : r ≡ bytesBelow 2 w) where
+        pub flag-over : not r ≡ true → false ≡ bodiesOk (says l w t)
+        unfolding bodiesOk
+        flag-over g = sym (both-false _ _ (both-false _ _ (both-none _ _ (failed er g))))
+
+        pub bodies-end : (a y : ℕ) (q : Bool) → length w ≡ x → length t ≡ n → not r ≡ false → a ≡ l .actions → y ≡ powerTo 2 a
+            → q ≡ bytesBelow y t → q ≡ bodiesOk (says l w t)
+        unfolding bodiesOk tableNodes
+        bodies-end a y q ew et g ea ey eq =
+            let two : 2 ^ l .actions ≤ 512 = le-trans (pow-mono few) (omega arith) in
+            let same : y ≡ 2 ^ l .actions = ey ∙ ap (powerTo 2) ea ∙ small-power 2 (l .actions) two in
+            eq
+            ∙ ap (λ b. bytesBelow b t) same
+            ∙ sym
+            (both-second _ _ (eq-eqb _ _ (ew ∙ words-are))
+            ∙ both-second _ _ (eq-eqb _ _ (et ∙ en))
+            ∙ both-second _ _ (passed er g))
+
+pub ruleset bodies = (needs, words-wrong, nodes-wrong, flag-over, bodies-end)
+
+-- 10 and 11 in their order
+
+numbers-any : (n : ℕ) (l : TableLayout) (a b : List ℕ) → numbersOk n (says l [] []) ≡ numbersOk n (says l a b)
+unfolding numbersOk tableNodes
+numbers-any n l a b = refl
+
+says-same : (s : List ℕ) (l : TableLayout) → l ≡ tableLayout s → tableAt s l ≡ decode s
+unfolding decode
+says-same s l e = ap (tableAt s) e
+
+-- what check 11 leaves of A and the delay
+module _ (n : ℕ) (l : TableLayout) (r : Bool) (e : r ≡ numbersOk n (says l [] [])) (g : not r ≡ false) where
+  pub few-actions : l .actions ≤ 8
+  unfolding numbersOk
+  few-actions = leb-true _ _ (both-left _ _ (both-right _ _ (both-right _ _ (passed e g))))
+
+  pub short-delay : l .delay ≤ 6
+  unfolding numbersOk
+  short-delay = leb-true _ _ (both-left _ _ (both-right _ _ (both-right _ _ (both-right _ _ (passed e g)))))
+
+module _ (s : List ℕ) (r₁ : Bool) (e₁ : r₁ ≡ contentsOk 2 tableLetters s) where
+  pub refuses-10 : not r₁ ≡ true → refused 10 ≡ shapeAnswer s
+  unfolding shapeAnswer check
+  refuses-10 x = rw (failed e₁ x)
+
+  module _ (t₁ : not r₁ ≡ false) (l : TableLayout) (el : l ≡ tableLayout s) (h : List ℕ) (eh : h ≡ bodyOf 2 s 0) (r₂ : Bool)
+      (e₂ : r₂ ≡ numbersOk (length h) (says l [] [])) where
+    two : r₂ ≡ numbersOk (length (bodyOf 2 s 0)) (decode s)
+    two = e₂ ∙ ap (λ b. numbersOk (length b) (says l [] [])) eh ∙ numbers-any _ l _ _ ∙ ap (numbersOk _) (says-same s l el)
+
+    pub refuses-11 : not r₂ ≡ true → refused 11 ≡ shapeAnswer s
+    unfolding shapeAnswer check
+    refuses-11 x = rw (passed e₁ t₁, failed two x)
+
+    module _ (t₂ : not r₂ ≡ false) (w t : List ℕ) (ew : w ≡ partAt s (l .flags)) (et : t ≡ partAt s (l .masks)) (r₃ : Bool)
+        (e₃ : r₃ ≡ bodiesOk (says l w t)) where
+      three : r₃ ≡ bodiesOk (decode s)
+      three = e₃ ∙ ap (λ b. bodiesOk (says l b t)) ew ∙ ap (λ b. bodiesOk (says l (partAt s (l .flags)) b)) et ∙ ap bodiesOk (says-same s l el)
+
+      pub refuses-bodies : not r₃ ≡ true → refused 11 ≡ shapeAnswer s
+      unfolding shapeAnswer check
+      refuses-bodies x = rw (passed e₁ t₁, passed two t₂, failed three x)
+
+      pub shape-read : (a : Answer TableSheet) → not r₃ ≡ false → a ≡ meaning s (Accepted l) → a ≡ shapeAnswer s
+      unfolding shapeAnswer
+      shape-read a x e =
+          e
+          ∙ ap accepted (says-same s l el)
+          ∙ sym
+          (check-passed _ 10 _ (passed e₁ t₁) ∙ check-passed _ 11 _ (passed two t₂) ∙ check-passed _ 11 _ (passed three x))
+
+pub ruleset shapes = (needs, few-actions, short-delay, refuses-10, refuses-11, refuses-bodies, shape-read)
+
+-- a flagged word
+
+abbrev wordsOf : List ℕ → Table
+wordsOf w = record { flags = w; masks = [] }
+
+module _ (w : List ℕ) (v : ℕ) where
+  flag-is : getD w v 0 ≡ 0 → flagged (wordsOf w) v ≡ false
+  unfolding flagged
+  flag-is e = rw (eq-eqb _ _ e)
+
+  flag-set : (getD w v 0 ≡ 0 → ⊥) → flagged (wordsOf w) v ≡ true
+  unfolding flagged
+  flag-set e = rw (ne-eqb _ _ e)
+
+  pub flag-found : v < length w → (getD w v 0 ≡ 0 → ⊥) → true ≡ someFlagged (record { flags = w; masks = [] })
+  unfolding someFlagged
+  flag-found h e = sym (any-holds (flagged (wordsOf w)) v (length w) h (flag-set e))
+
+  pub flag-again : anyBelow (flagged (record { flags = w; masks = [] })) v ≡ false → getD w v 0 ≡ 0
+      → anyBelow (flagged (record { flags = w; masks = [] })) (v + 1) ≡ false
+  flag-again a e = any-again (flagged (wordsOf w)) v {r = false} a (sym (flag-is e)) refl
+
+  pub flags-done : v ≤ length w → length w ≤ v → anyBelow (flagged (record { flags = w; masks = [] })) v ≡ false
+      → false ≡ someFlagged (record { flags = w; masks = [] })
+  unfolding someFlagged
+  flags-done h g a = sym (any-done (flagged (wordsOf w)) h g a)
+
+pub ruleset flags = (needs, any-none, flag-found, flag-again, flags-done)
+
+-- 12, after the shape
+
+some-any : (w a b : List ℕ) → someFlagged (record { flags = w; masks = a }) ≡ someFlagged (record { flags = w; masks = b })
+unfolding someFlagged flagged
+some-any w a b = refl
+
+module _ (s : List ℕ) (y : TableReading) (ey : meaning s y ≡ shapeAnswer s) where
+  pub shape-refused : (x : Refusal) → y ≡ Refused x → meaning s y ≡ tableAnswer s
+  unfolding tableAnswer onAccepted
+  shape-refused x e = let f : shapeAnswer s ≡ refused (numberOf x) = sym ey ∙ ap (meaning s) e in ap (meaning s) e ∙ sym (rw f refl)
+
+  module _ (l : TableLayout) (el : y ≡ Accepted l) (w : List ℕ) (ew : w ≡ partAt s (l .flags)) (r : Bool)
+      (er : r ≡ someFlagged (record { flags = w; masks = [] })) where
+    shape : shapeAnswer s ≡ accepted (tableAt s l)
+    shape = sym ey ∙ ap (meaning s) el
+
+    some : r ≡ someFlagged (tableAt s l .table)
+    some = er ∙ ap (λ b. someFlagged (record { flags = b; masks = [] })) ew ∙ some-any _ _ _
+
+    pub refuses-12 : not r ≡ true → refused 12 ≡ tableAnswer s
+    unfolding tableAnswer onAccepted check
+    refuses-12 x = rw (shape, failed some x)
+
+    pub table-read : not r ≡ false → accepted (tableAt s l) ≡ tableAnswer s
+    unfolding tableAnswer onAccepted check
+    table-read x = rw (shape, passed some x)
+
+pub ruleset reads = (needs, shape-refused, refuses-12, table-read)
+
+-- the part that holds the masks
+
+module _ (s : List ℕ) (y : TableReading) (ey : meaning s y ≡ tableAnswer s) where
+  pub masks-none : (x : Refusal) → y ≡ Refused x → [] ≡ masksOf s
+  unfolding masksOf masksIn
+  masks-none x e = rw (sym ey ∙ ap (meaning s) e)
+
+  pub masks-some : (l : TableLayout) (t : List ℕ) → y ≡ Accepted l → t ≡ bodyOf 2 s 2 → t ≡ masksOf s
+  unfolding masksOf masksIn
+  masks-some l t e f = rw (sym ey ∙ ap (meaning s) e) f
+
+pub ruleset masks-laws = (needs, masks-none, masks-some)

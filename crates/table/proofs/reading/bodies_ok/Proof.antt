@@ -1,0 +1,57 @@
+-- `bodies_ok` meets its contract, by the laws of TableLaws.antt. Assumes nothing.
+use Rattle.table.proofs.TableLaws.{bodies}
+use Rattle.table.proofs.reading.bodies_ok.Statement.{statement}
+use Rattle.table.proofs.reading.bodies_ok.Tie as tie
+
+wide-requires : tie.Need-wide-requires
+wide-requires c κs = search bodies
+
+add-power : tie.Need-add-power
+add-power c = search bodies
+
+power-requires : tie.Need-power-requires
+power-requires c κs = search bodies
+
+returns : tie.Need-returns
+returns c = search bodies
+
+table-nodes-requires : tie.Need-table-nodes-requires
+table-nodes-requires c κs = search bodies
+
+returns-2 : tie.Need-returns-2
+returns-2 c = search bodies
+
+bytes-below-requires : tie.Need-bytes-below-requires
+bytes-below-requires c κs = search bodies
+
+returns-3 : tie.Need-returns-3
+returns-3 c = search bodies
+
+wide-requires-2 : tie.Need-wide-requires-2
+wide-requires-2 c κs = search bodies
+
+power-requires-2 : tie.Need-power-requires-2
+power-requires-2 c κs = search bodies
+
+bytes-below-requires-2 : tie.Need-bytes-below-requires-2
+bytes-below-requires-2 c κs = search bodies
+
+returns-4 : tie.Need-returns-4
+returns-4 c = search bodies
+
+pub bodies-ok-spec : {M : Type 1} → statement M
+bodies-ok-spec =
+    tie.close
+    (tie.spec
+    wide-requires
+    add-power
+    power-requires
+    returns
+    table-nodes-requires
+    returns-2
+    bytes-below-requires
+    returns-3
+    wide-requires-2
+    power-requires-2
+    bytes-below-requires-2
+    returns-4)
