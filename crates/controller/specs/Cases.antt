@@ -41,9 +41,9 @@ unfoldable pub positionsOf : Game → Play → List ℕ
 positionsOf G π = tabulate (λ k. last G (back k π)) 0 (suc (index π))
 
 -- what the calls answer
-unfoldable pub outcomes : List ℕ → Progress → List Call → List Outcome
-outcomes t s [] = []
-outcomes t s (c ∷ later) = reply t (s .state) c .outcome ∷ outcomes t (callStep t s c) later
+unfoldable pub repliesTo : List ℕ → Progress → List Call → List Outcome
+repliesTo t s [] = []
+repliesTo t s (c ∷ later) = reply t (s .state) c .outcome ∷ repliesTo t (callStep t s c) later
 
 -- of a game sheet: the solver's result; what a list of calls answers over the made sheet; the exact play of so many turns
 -- against the last moves
@@ -56,7 +56,7 @@ abbrev outputRoom : ℕ
 outputRoom = 40000
 
 unfoldable pub answersBy : List ℕ → List Call → Made → Case
-answersBy s calls (won t) = answers s calls (outcomes t begun calls)
+answersBy s calls (won t) = answers s calls (repliesTo t begun calls)
 answersBy s calls (lost m t) = answers s calls []
 
 unfoldable pub playsBy : List ℕ → ℕ → Made → Case
