@@ -1,6 +1,7 @@
 -- The theorems over specs/.
 pub mod More
 pub mod Answers
+pub mod StateLaws
 pub mod Progress
 pub mod Accuracy
 pub mod Cases
