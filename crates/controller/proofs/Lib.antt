@@ -2,6 +2,8 @@
 pub mod More
 pub mod Answers
 pub mod StateLaws
+pub mod CommandLaws
+pub mod CallLaws
 pub mod Progress
 pub mod Accuracy
 pub mod Cases

@@ -12,7 +12,7 @@ use borrow.Author.Tests.{le-leb, lt-leb}
 use Rattle.theory.specs.Fold.{both, either, allBelow, tabulate}
 use Rattle.theory.proofs.Fold.{both-false, both-true, all-none, all-done}
 use Rattle.sheet.proofs.More.{both-none, both-second, failed, passed, all-next, all-stopped}
-use Rattle.table.specs.TableSheet.{TableSheet, says}
+use Rattle.table.specs.TableSheet.{says}
 use Rattle.table.specs.declared.reading.TableLayout.{TableLayout}
 use Rattle.controller.specs.State.{million, unknown, opened, heldAt, withinAt, heldOk, windowOk, stateOk, pushed, shiftedAt, shifted}
 use Rattle.controller.specs.Controller.{agrees}
