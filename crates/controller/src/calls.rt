@@ -4,6 +4,7 @@ use crate::commands::action_of;
 use crate::commands::least_flagged;
 use crate::commands::lowest;
 use crate::commands::mask_at;
+use crate::state::LAST_TURN;
 use crate::state::Slot;
 use crate::state::State;
 use crate::state::agrees;
@@ -26,8 +27,6 @@ ghost use Rattle.controller.specs.State.{million, gaveState};
 ghost use Rattle.controller.specs.Controller.{observeWith, actWith};
 ghost use Rattle.controller.specs.Accuracy.{hear, ask, afterHearing, afterGiving, reply};
 ghost use Rattle.controller.specs.Meaning.{meaning, openReply, Usable};
-
-const LAST_TURN: usize = 1000000;
 
 // What a call answers.
 pub enum Decision {

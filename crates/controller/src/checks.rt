@@ -1,4 +1,5 @@
 // Check 20: is a state one, under a table sheet's numbers? It is total: entries outside the window don't matter.
+use crate::state::LAST_TURN;
 use crate::state::Slot;
 use crate::state::State;
 use crate::state::slot_in;
@@ -10,8 +11,6 @@ ghost use Prim.Native.Nat.{min};
 ghost use Rattle.theory.specs.Fold.{allBelow};
 ghost use Rattle.table.specs.TableSheet.{says};
 ghost use Rattle.controller.specs.State.{heldAt, withinAt, stateOk};
-
-const LAST_TURN: usize = 1000000;
 
 const HELD: usize = 3;
 

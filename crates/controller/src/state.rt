@@ -5,6 +5,9 @@ ghost use lib.ListN.{getD};
 ghost use Rattle.controller.specs.State.{unknown, opened, pushed, shiftedAt, shifted};
 ghost use Rattle.controller.specs.Controller.{agrees};
 
+// The last turn: no command is given at it.
+pub(crate) const LAST_TURN: usize = 1000000;
+
 const SLOTS: usize = 7;
 
 // An observation: is the position of this index known, and which one it is.
