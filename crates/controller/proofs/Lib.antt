@@ -1,1 +1,9 @@
 -- The theorems over specs/.
+pub mod More
+pub mod Answers
+pub mod StateLaws
+pub mod CommandLaws
+pub mod CallLaws
+pub mod Progress
+pub mod Accuracy
+pub mod Cases

@@ -2,3 +2,5 @@
 pub mod State
 pub mod Controller
 pub mod Accuracy
+pub mod Meaning
+pub mod Cases

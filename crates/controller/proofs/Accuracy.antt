@@ -1,0 +1,115 @@
+-- Demand 3, "The cabin's accuracy": over any readable sheet whose table is sound for the game, and over the bytes of a game sheet
+-- and its made sheet. Assumes nothing.
+use Prim.Native.Nat.{ℕ, _≤_}
+use mathlib.Core.Path.{_≡_, refl, sym, _∙_, ap, subst}
+use mathlib.Core.Bool.{true}
+use mathlib.Core.List.{List, [], _∷_}
+use native.Mathlib.Omega.{arith}
+use lib.ListN.{length}
+use Rattle.theory.specs.Answer.{accepted, onAccepted}
+use Rattle.theory.specs.Game.{Game, Legal}
+use Rattle.theory.specs.Play.{actionsOf, last, back, Rule, IsRule}
+use Rattle.theory.specs.Table.{flagged}
+use Rattle.theory.specs.Exact.{Run, going, playOf, commandOf}
+use Rattle.theory.proofs.Fold.{any-some}
+use Rattle.theory.proofs.Answer.{check-accepted, accepted-on}
+use Rattle.theory.proofs.Ours.{ours-fits, ours-judged}
+use Rattle.sheet.specs.Reading.{delayOf}
+use Rattle.sheet.specs.Meant.{gameOf}
+use Rattle.table.specs.TableSheet.{TableSheet, decode, shapeAnswer, someFlagged, tableAnswer}
+use Rattle.table.specs.Making.{won, makeAnswer}
+use Rattle.table.proofs.Readable.{tableFor, made-says}
+use Rattle.table.proofs.Made.{making-won}
+use Rattle.controller.specs.State.{opened}
+use Rattle.controller.specs.Controller.{openAnswer, observeAnswer, actAnswer}
+use Rattle.controller.specs.Accuracy.{Call, hear, ask, reply, Progress, begun, turnOf, callStep, runCalls, True, Truthful, Answered, GoesSafely, Accurate}
+use Rattle.controller.proofs.Progress.{Sound, goes, Follows, begins, Right, hear-right, ask-right}
+
+accepted-same : {A : Type 0} {x y : A} → accepted x ≡ accepted y → x ≡ y
+accepted-same e = cc
+
+-- a readable sheet has a flagged word
+some-word : (t : List ℕ) (x : TableSheet) → tableAnswer t ≡ accepted x → (v : ℕ) × (flagged (x .table) v ≡ true)
+unfolding tableAnswer someFlagged
+some-word t x e =
+    let a = accepted-on (shapeAnswer t) _ e in
+    let b = check-accepted _ 12 _ (a .2) in
+    let y = accepted-same (b .1) in
+    let g = any-some (flagged (a .0 .table)) (length (a .0 .table .flags)) (b .0) in
+    (g .0, subst (λ (x : TableSheet). flagged (x .table) (g .0) ≡ true) y (g .2))
+
+module _ (G : Game) (t : List ℕ) (rule : Rule) (legal : Legal G) (reads : tableAnswer t ≡ accepted (decode t)) (sound : Sound G (decode t)) (is : IsRule G rule) where
+  abbrev word : ℕ
+  word = some-word t (decode t) reads .0
+
+  abbrev word-flagged : flagged (decode t .table) word ≡ true
+  word-flagged = some-word t (decode t) reads .1
+
+  abbrev Follow : Progress → Type 0
+  Follow = Follows G legal (decode t) sound word word-flagged rule is
+
+  -- one call over the bytes
+  step-right : (s : Progress) → Follow s → (c : Call) → True G t rule s c
+      → Right G legal (decode t) sound word word-flagged rule is s c (reply t (s .state) c)
+  unfolding observeAnswer actAnswer onAccepted
+  step-right s f (hear k p) h = rw reads (hear-right G legal (decode t) sound word word-flagged rule is s f k p h)
+  step-right s f ask h = rw reads (ask-right G legal (decode t) sound word word-flagged rule is s f)
+
+  -- after any list of calls, from any progress that follows the exact play
+  all-right : (s : Progress) → Follow s → (calls : List Call) → Truthful G t rule s calls
+      → Follow (runCalls t s calls) × Answered G t rule s calls
+  unfolding Truthful runCalls Answered callStep
+  all-right s f [] h = (f, tt)
+  all-right s f (c ∷ later) h =
+      let r = step-right s f c (h .0) in
+      let l = all-right (callStep t s c) (r .1) later (h .1) in
+      (l .0, (r .0, l .1))
+
+  opens-right : openAnswer t ≡ accepted opened
+  unfolding openAnswer onAccepted
+  opens-right = rw reads
+
+  goes-safely : (n : ℕ) → GoesSafely G (decode t) rule n
+  goes-safely n =
+      let g = goes G legal (decode t) sound word word-flagged rule is n in
+      record {
+        goes = g .is ∙ ap (λ (r : Run). going (playOf r)) (sym (g .is));
+        safely = λ k. subst (λ (r : Run). G .safe (last G (back k (playOf r))) ≡ true) (sym (g .is)) (g .safe k);
+        commanded = (g .action, ap (λ (r : Run). commandOf G (decode t .delay) (decode t .table) (playOf r)) (g .is) ∙ g .commanded);
+      }
+
+  pub accurate : (calls : List Call) → Truthful G t rule begun calls → Accurate G t rule calls
+  accurate calls h =
+      let r = all-right begun (begins G legal (decode t) sound word word-flagged rule is) calls h in
+      let f = r .0 in
+      let n = turnOf (runCalls t begun calls) in
+      let e = goes G legal (decode t) sound word word-flagged rule is n .is in
+      record {
+        opens = opens-right;
+        endless = λ n b. goes-safely n;
+        given = f .acts ∙ ap (λ (r : Run). actionsOf (playOf r)) (sym e);
+        played = f .works ∙ sym e;
+        answered = r .1;
+      }
+
+-- the made sheet of a winning game is sound for it
+made-sound : (G : Game) (d : ℕ) → Legal G → d ≤ 6 → Sound G (tableFor G d)
+made-sound G d legal h =
+    record {
+      actions = refl;
+      highest = omega (arith, legal .start-position);
+      short-delay = h;
+      fits = ours-fits G d;
+      judged = ours-judged G legal d;
+    }
+
+-- the delivered claim: for every game sheet s whose made sheet t is winning, every rule and every list of calls with true reports
+pub accuracy : (s : List ℕ) (masks ranks output : ℕ) (t : List ℕ) → makeAnswer s masks ranks output ≡ accepted (won t)
+    → (rule : Rule) → IsRule (gameOf s) rule
+    → (calls : List Call) → Truthful (gameOf s) t rule begun calls → Accurate (gameOf s) t rule calls
+accuracy s masks ranks output t made rule is calls h =
+    let w = making-won s masks ranks output t made in
+    let says : decode t ≡ tableFor (gameOf s) (delayOf s) = ap decode (w .sheet) ∙ made-says (gameOf s) (delayOf s) (w .ranged) in
+    accurate (gameOf s) t rule (w .ranged .legal) (w .reads ∙ ap accepted (sym says))
+    (subst (Sound (gameOf s)) (sym says) (made-sound (gameOf s) (delayOf s) (w .ranged .legal) (w .ranged .short-delay)))
+    is calls h

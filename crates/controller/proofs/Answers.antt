@@ -1,0 +1,84 @@
+-- Laws of specs/Controller.antt: each answer of hearing and of giving, with the tests that lead to it. Assumes nothing.
+use Prim.Native.Nat.{ℕ, _+_, _-_, _*_, _≤_, _<_}
+use mathlib.Core.Path.{_≡_, _∙_, ap}
+use mathlib.Core.Bool.{true, false, not}
+use native.Mathlib.Omega.{arith}
+use borrow.Author.Tests.{le-leb, lt-leb, eq-eqb, ne-eqb}
+use Rattle.theory.specs.Answer.{refused, accepted}
+use Rattle.theory.specs.Exact.{missing, give}
+use Rattle.theory.proofs.Answer.{check-passed, check-failed}
+use Rattle.table.specs.TableSheet.{TableSheet}
+use Rattle.controller.specs.State.{million, slotAt, stateOk, observed, gaveState}
+use Rattle.controller.specs.Controller.{agrees, observeWith, obey, commandIn, reported, actWith}
+use Rattle.controller.specs.declared.state.State.{State}
+
+module _ (x : TableSheet) (s : State) (k p : ℕ) where
+  pub observe-20 : stateOk x s ≡ false → observeWith x s k p ≡ refused 20
+  unfolding observeWith
+  observe-20 bad = check-failed _ 20 _ bad
+
+  module _ (good : stateOk x s ≡ true) where
+    pub observe-16 : x .highest < p → observeWith x s k p ≡ refused 16
+    unfolding observeWith
+    observe-16 h = check-passed _ 20 _ good ∙ check-failed _ 16 _ (lt-leb p (x .highest) h)
+
+    pub observe-17 : p ≤ x .highest → k + x .delay < 2 * s .turn → observeWith x s k p ≡ refused 17
+    unfolding observeWith
+    observe-17 h l =
+        check-passed _ 20 _ good ∙ check-passed _ 16 _ (le-leb p (x .highest) h)
+        ∙ check-failed _ 17 _ (lt-leb (2 * s .turn) (k + x .delay) l)
+
+    pub observe-18 : p ≤ x .highest → 2 * s .turn < k → observeWith x s k p ≡ refused 18
+    unfolding observeWith
+    observe-18 h u =
+        check-passed _ 20 _ good ∙ check-passed _ 16 _ (le-leb p (x .highest) h)
+        ∙ check-passed _ 17 _ (le-leb (2 * s .turn) (k + x .delay) (omega arith))
+        ∙ check-failed _ 18 _ (lt-leb k (2 * s .turn) u)
+
+    module _ (h : p ≤ x .highest) (l : 2 * s .turn ≤ k + x .delay) (u : k ≤ 2 * s .turn) where
+      pub observe-19 : agrees (slotAt s (2 * s .turn - k)) p ≡ false → observeWith x s k p ≡ refused 19
+      unfolding observeWith
+      observe-19 a =
+          check-passed _ 20 _ good ∙ check-passed _ 16 _ (le-leb p (x .highest) h)
+          ∙ check-passed _ 17 _ (le-leb (2 * s .turn) (k + x .delay) l)
+          ∙ check-passed _ 18 _ (le-leb k (2 * s .turn) u)
+          ∙ check-failed _ 19 _ a
+
+      pub observe-accepts : agrees (slotAt s (2 * s .turn - k)) p ≡ true → observeWith x s k p ≡ accepted (observed s k p)
+      unfolding observeWith
+      observe-accepts a =
+          check-passed _ 20 _ good ∙ check-passed _ 16 _ (le-leb p (x .highest) h)
+          ∙ check-passed _ 17 _ (le-leb (2 * s .turn) (k + x .delay) l)
+          ∙ check-passed _ 18 _ (le-leb k (2 * s .turn) u)
+          ∙ check-passed _ 19 _ a
+
+module _ (x : TableSheet) (s : State) where
+  pub act-20 : stateOk x s ≡ false → actWith x s ≡ refused 20
+  unfolding actWith
+  act-20 bad = check-failed _ 20 _ bad
+
+  module _ (good : stateOk x s ≡ true) where
+    pub act-15 : s .turn ≡ million → actWith x s ≡ refused 15
+    unfolding actWith
+    act-15 e = check-passed _ 20 _ good ∙ check-failed _ 15 _ (ap not (eq-eqb (s .turn) million e))
+
+    module _ (more : s .turn ≡ million → ⊥) where
+      pub act-13 : reported x s ≡ false → actWith x s ≡ refused 13
+      unfolding actWith
+      act-13 r =
+          check-passed _ 20 _ good ∙ check-passed _ 15 _ (ap not (ne-eqb (s .turn) million more)) ∙ check-failed _ 13 _ r
+
+      module _ (r : reported x s ≡ true) where
+        act-obeys : actWith x s ≡ obey x s (commandIn x s)
+        unfolding actWith
+        act-obeys =
+            check-passed _ 20 _ good ∙ check-passed _ 15 _ (ap not (ne-eqb (s .turn) million more)) ∙ check-passed _ 13 _ r
+
+        pub act-14 : commandIn x s ≡ missing → actWith x s ≡ refused 14
+        unfolding obey
+        act-14 e = act-obeys ∙ ap (obey x s) e
+
+        pub act-gives : (a : ℕ) → commandIn x s ≡ give a
+            → actWith x s ≡ accepted (record { action = a; state = gaveState (x .delay) s a })
+        unfolding obey
+        act-gives a e = act-obeys ∙ ap (obey x s) e

@@ -1,0 +1,306 @@
+-- Opening, hearing and giving, as the code of src/calls.rt finds them: the checks before have passed, and one fails.
+-- Assumes nothing.
+use Prim.Native.Nat.{ℕ, _+_, _-_, _*_, _/_, _^_, _≤_, _<_}
+use mathlib.Core.Path.{_≡_, refl, sym, _∙_, ap, ap₂, subst}
+use mathlib.Core.Bool.{Bool, true, false, not}
+use mathlib.Core.Logic.{⊎-elim}
+use mathlib.Core.List.{List, []}
+use native.Mathlib.Omega.{arith}
+use native.Mathlib.Numerals.{add-one}
+use lib.Count.{trailingZeros}
+use lib.ListN.{length, getD, set, take, List·getD-eq-default}
+use lib.Pow.{pow-pos}
+use mir.Syntax.{w64}
+use mir.Val.{Fits}
+use borrow.Author.Needs.{needs}
+use borrow.Author.Tests.{leb-true, ltb-true, lt-ltb, le-ltb, not-true, not-false}
+use Rattle.theory.specs.Fold.{either, allBelow}
+use Rattle.theory.specs.Answer.{refused, accepted, onAccepted}
+use Rattle.theory.specs.Words.{digit}
+use Rattle.theory.specs.Strategy.{initialLength}
+use Rattle.theory.specs.Table.{flagged}
+use Rattle.theory.specs.Exact.{give, leastFlagged, lowestIn, commandAt}
+use Rattle.theory.proofs.Fold.{both-left, both-right, either-left, all-at, below?}
+use Rattle.theory.proofs.Answer.{check-accepted, accepted-on}
+use Rattle.theory.proofs.Masks.{lowest-gives, lowest-missing, lowest-trailing}
+use Rattle.sheet.specs.Form.{partAt}
+use Rattle.sheet.specs.Refusals.{numberOf}
+use Rattle.sheet.proofs.More.{failed, passed}
+use Rattle.sheet.specs.declared.refusal.Refusal.{Refusal}
+use Rattle.sheet.specs.declared.refusal.Refusal.the-variants as refusal
+use Rattle.table.specs.TableSheet.{TableSheet, says, tableAt, decode, numbersOk, belowAt, bytesBelow, bodiesOk, shapeAnswer, tableAnswer, meaning as reading}
+use Rattle.table.specs.declared.reading.TableLayout.{TableLayout}
+use Rattle.table.specs.declared.reading.TableReading.{TableReading}
+use Rattle.table.specs.declared.reading.TableReading.the-variants as table
+use Rattle.controller.specs.State.{million, unknown, seen, opened, slotAt, heldOk, windowOk, stateOk, pushed, shifted, gaveState}
+use Rattle.controller.specs.Controller.{agrees, observeWith, wordOf, commandIn, reported, actWith, openAnswer, observeAnswer, actAnswer}
+use Rattle.controller.specs.Accuracy.{hear, ask, afterHearing, afterGiving, reply}
+use Rattle.controller.specs.Meaning.{meaning, openReply, Usable}
+use Rattle.controller.specs.declared.calls.Decision.{Decision}
+use Rattle.controller.specs.declared.calls.Decision.the-variants.{Accepted, Given, Refused}
+use Rattle.controller.specs.declared.calls.Step.{Step}
+use Rattle.controller.specs.declared.state.Slot.{Slot}
+use Rattle.controller.specs.declared.state.State.{State}
+use Rattle.controller.proofs.Answers.{observe-20, observe-16, observe-17, observe-18, observe-19, observe-accepts, act-20, act-15, act-13, act-14, act-gives}
+
+-- a step
+
+abbrev pub step : Decision → State → Step
+step d s = record { decision = d; state = s }
+
+pub give-is : (delay : ℕ) (s : State) (a : ℕ) (p : List ℕ) (q : List Slot) → p ≡ pushed a (s .last) → q ≡ shifted delay (s .window)
+    → step (Given a) (record { turn = s .turn + 1; last = p; window = q }) ≡ step (Given a) (gaveState delay s a)
+give-is delay s a p q e f = rw (add-one (s .turn), e, f)
+
+pub ruleset give-laws = (needs, give-is)
+
+-- what passing check 20 says of the turn
+
+module _ (l : TableLayout) (s : State) (b : Bool) (e : b ≡ stateOk (says l [] []) s) where
+  pub turn-few : not b ≡ false → s .turn ≤ million
+  unfolding stateOk
+  turn-few g = leb-true (s .turn) million (both-left _ _ (passed e g))
+
+  pub turn-fits : not b ≡ false → Fits w64 (2 * s .turn)
+  turn-fits g = record { fits = omega (arith, turn-few g) }
+
+  pub turn-left : not b ≡ false → (s .turn ≡ million → ⊥) → s .turn < million
+  turn-left g t = omega (arith, turn-few g)
+
+-- hearing; b is the result of check 20, v the delay as a number, w the slot of the index
+
+module _ (l : TableLayout) (s : State) (k p : ℕ) (r : Step) (b : Bool) (e : b ≡ stateOk (says l [] []) s) where
+  pub hears-20 : not b ≡ true → r ≡ step (Refused refusal.State) s → meaning r ≡ afterHearing s (observeWith (says l [] []) s k p)
+  hears-20 g f = ap meaning f ∙ ap (afterHearing s) (sym (observe-20 (says l [] []) s k p (failed e g)))
+
+  module _ (g : not b ≡ false) where
+    pub hears-16 : l .highest < p → r ≡ step (Refused refusal.UnknownPosition) s
+        → meaning r ≡ afterHearing s (observeWith (says l [] []) s k p)
+    hears-16 h f = ap meaning f ∙ ap (afterHearing s) (sym (observe-16 (says l [] []) s k p (passed e g) h))
+
+    module _ (h : p ≤ l .highest) where
+      pub hears-18 : 2 * s .turn < k → r ≡ step (Refused refusal.TooNew) s
+          → meaning r ≡ afterHearing s (observeWith (says l [] []) s k p)
+      hears-18 u f = ap meaning f ∙ ap (afterHearing s) (sym (observe-18 (says l [] []) s k p (passed e g) h u))
+
+      module _ (u : k ≤ 2 * s .turn) (v : ℕ) (ev : v ≡ l .delay) where
+        pub hears-17 : v < 2 * s .turn - k → r ≡ step (Refused refusal.TooOld) s
+            → meaning r ≡ afterHearing s (observeWith (says l [] []) s k p)
+        hears-17 d f =
+            let o : k + l .delay < 2 * s .turn = omega arith in
+            ap meaning f ∙ ap (afterHearing s) (sym (observe-17 (says l [] []) s k p (passed e g) h o))
+
+        module _ (d : 2 * s .turn - k ≤ v) (w : Slot) (ew : w ≡ getD (s .window) (2 * s .turn - k) unknown) (a : Bool)
+            (ea : a ≡ agrees w p) where
+          slot-same : a ≡ agrees (slotAt s (2 * s .turn - k)) p
+          unfolding slotAt
+          slot-same = ea ∙ ap (λ w. agrees w p) ew
+
+          pub hears-19 : not a ≡ true → r ≡ step (Refused refusal.Contradiction) s
+              → meaning r ≡ afterHearing s (observeWith (says l [] []) s k p)
+          hears-19 t f =
+              let o : 2 * s .turn ≤ k + l .delay = omega arith in
+              ap meaning f
+              ∙ ap (afterHearing s) (sym (observe-19 (says l [] []) s k p (passed e g) h o u (failed slot-same t)))
+
+          pub hears-accepts : not a ≡ false
+              → r ≡ step Accepted (record { turn = s .turn; last = s .last; window = set (s .window) (2 * s .turn - k) (seen p) })
+              → meaning r ≡ afterHearing s (observeWith (says l [] []) s k p)
+          hears-accepts t f =
+              let o : 2 * s .turn ≤ k + l .delay = omega arith in
+              ap meaning f
+              ∙ ap (afterHearing s) (sym (observe-accepts (says l [] []) s k p (passed e g) h o u (passed slot-same t)))
+
+pub ruleset hear-laws = (needs, turn-fits, hears-20, hears-16, hears-18, hears-17, hears-19, hears-accepts)
+
+-- giving; v is the delay as a number
+
+-- check 20 needs no table
+state-any : (l : TableLayout) (f m : List ℕ) (s : State) → stateOk (says l [] []) s ≡ stateOk (says l f m) s
+unfolding stateOk heldOk windowOk
+state-any l f m s = refl
+
+least-any : (f m : List ℕ) → leastFlagged (record { flags = f; masks = [] }) ≡ leastFlagged (record { flags = f; masks = m })
+unfolding leastFlagged flagged
+least-any f m = refl
+
+module _ (x : TableSheet) (s : State) where
+  early-report : 2 * s .turn < x .delay → reported x s ≡ true
+  unfolding reported
+  early-report h = either-left _ _ (lt-ltb (2 * s .turn) (x .delay) h)
+
+  late-report : x .delay ≤ 2 * s .turn → reported x s ≡ slotAt s (x .delay) .known
+  unfolding reported either
+  late-report h = rw (le-ltb (2 * s .turn) (x .delay) h)
+
+  early-command : 2 * s .turn < x .delay
+      → commandIn x s ≡ give (digit (x .actions) (initialLength (x .delay)) (leastFlagged (x .table)) (s .turn))
+  unfolding commandIn commandAt
+  early-command h = rw (lt-ltb (2 * s .turn) (x .delay) h)
+
+  -- the mask of the needed report's node
+  abbrev mask : ℕ
+  mask =
+      getD (x .table .masks)
+      (slotAt s (x .delay) .position * x .actions ^ (x .delay / 2) + wordOf (x .actions) (take (x .delay / 2) (s .last)))
+      0
+
+  late-command : x .delay ≤ 2 * s .turn → commandIn x s ≡ lowestIn (x .actions) mask
+  unfolding commandIn commandAt
+  late-command h = rw (le-ltb (2 * s .turn) (x .delay) h)
+
+module _ (l : TableLayout) (f m : List ℕ) (s : State) (r : Step) (b : Bool) (e : b ≡ stateOk (says l [] []) s) where
+  pub acts-20 : not b ≡ true → r ≡ step (Refused refusal.State) s → meaning r ≡ afterGiving s (actWith (says l f m) s)
+  acts-20 g q = ap meaning q ∙ ap (afterGiving s) (sym (act-20 (says l f m) s (sym (state-any l f m s) ∙ failed e g)))
+
+  module _ (g : not b ≡ false) where
+    good : stateOk (says l f m) s ≡ true
+    good = sym (state-any l f m s) ∙ passed e g
+
+    pub acts-15 : s .turn ≡ million → r ≡ step (Refused refusal.LastTurn) s → meaning r ≡ afterGiving s (actWith (says l f m) s)
+    acts-15 t q = ap meaning q ∙ ap (afterGiving s) (sym (act-15 (says l f m) s good t))
+
+    module _ (t : s .turn ≡ million → ⊥) where
+      module _ (v : ℕ) (ev : v ≡ l .delay) where
+        pub acts-early : (w a : ℕ) → 2 * s .turn < v → w ≡ leastFlagged (record { flags = f; masks = [] })
+            → a ≡ digit (l .actions) ((v + 1) / 2) w (s .turn) → r ≡ step (Given a) (gaveState (l .delay) s a)
+            → meaning r ≡ afterGiving s (actWith (says l f m) s)
+        acts-early w a h ew ea q =
+            let o : 2 * s .turn < l .delay = omega arith in
+            let c : digit (l .actions) (initialLength (l .delay)) (leastFlagged (record { flags = f; masks = m })) (s .turn) ≡ a =
+            ap₂ (λ d w. digit (l .actions) ((d + 1) / 2) w (s .turn)) (sym ev) (sym (ew ∙ least-any f m)) ∙ sym ea in
+            ap meaning q
+            ∙ ap (afterGiving s)
+            (sym
+            (act-gives (says l f m) s good t (early-report (says l f m) s o) a (early-command (says l f m) s o ∙ ap give c)))
+
+        module _ (late : v ≤ 2 * s .turn) (w : Slot) (ew : w ≡ getD (s .window) v unknown) where
+          o : l .delay ≤ 2 * s .turn
+          o = omega arith
+
+          slot-is : w ≡ slotAt s (l .delay)
+          unfolding slotAt
+          slot-is = ew ∙ ap (λ d. getD (s .window) d unknown) ev
+
+          pub acts-13 : not (w .known) ≡ true → r ≡ step (Refused refusal.Unobserved) s
+              → meaning r ≡ afterGiving s (actWith (says l f m) s)
+          acts-13 k q =
+              let z = late-report (says l f m) s o ∙ ap (λ (w : Slot). w .known) (sym slot-is) ∙ not-true (w .known) k in
+              ap meaning q ∙ ap (afterGiving s) (sym (act-13 (says l f m) s good t z))
+
+          module _ (k : not (w .known) ≡ false) (n : ℕ)
+              (en : n ≡ getD m (w .position * l .actions ^ (l .delay / 2) + wordOf (l .actions) (take (l .delay / 2) (s .last))) 0) where
+            heard : reported (says l f m) s ≡ true
+            heard = late-report (says l f m) s o ∙ ap (λ (w : Slot). w .known) (sym slot-is) ∙ not-false (w .known) k
+
+            mask-same : mask (says l f m) s ≡ n
+            mask-same =
+                ap
+                (λ (w : Slot).
+                getD m (w .position * l .actions ^ (l .delay / 2) + wordOf (l .actions) (take (l .delay / 2) (s .last))) 0)
+                (sym slot-is)
+                ∙ sym en
+
+            command-is : commandIn (says l f m) s ≡ lowestIn (l .actions) n
+            command-is = late-command (says l f m) s o ∙ ap (lowestIn (l .actions)) mask-same
+
+            pub acts-14 : n ≡ 0 → r ≡ step (Refused refusal.NoAction) s → meaning r ≡ afterGiving s (actWith (says l f m) s)
+            acts-14 z q =
+                ap meaning q
+                ∙ ap (afterGiving s) (sym (act-14 (says l f m) s good t heard (command-is ∙ lowest-missing (l .actions) n z)))
+
+            pub acts-late : (a : ℕ) → (n ≡ 0 → ⊥) → Usable (says l f m) → a ≡ trailingZeros 8 n
+                → r ≡ step (Given a) (gaveState (l .delay) s a) → meaning r ≡ afterGiving s (actWith (says l f m) s)
+            acts-late a z u ea q =
+                let small : n < 2 ^ l .actions = rw (← mask-same) (u .small-masks _) in
+                let c = lowest-trailing 8 (l .actions) n (u .few-actions) small z in
+                ap meaning q
+                ∙ ap (afterGiving s)
+                (sym
+                (act-gives (says l f m) s good t heard a
+                (command-is ∙ lowest-gives (l .actions) n z ∙ ap give (sym c ∙ sym ea))))
+
+pub ruleset act-laws = (needs, turn-fits, turn-left, acts-20, acts-15, acts-early, acts-13, acts-14, acts-late)
+
+-- a readable sheet
+
+accepted-same : {A : Type 0} {x y : A} → accepted x ≡ accepted y → x ≡ y
+accepted-same e = cc
+
+-- what an accepted reading says of the numbers and the masks
+pub usable : (t : List ℕ) (x : TableSheet) → tableAnswer t ≡ accepted x → Usable x
+unfolding tableAnswer shapeAnswer numbersOk bodiesOk bytesBelow belowAt
+usable t x e =
+    let a = accepted-on (shapeAnswer t) _ e in
+    let z = check-accepted _ 12 _ (a .2) in
+    let c = check-accepted _ 10 _ (a .1) in
+    let n = check-accepted _ 11 _ (c .1) in
+    let m = check-accepted _ 11 _ (n .1) in
+    let y : x ≡ decode t = sym (accepted-same (z .1)) ∙ sym (accepted-same (m .1)) in
+    let p = both-right _ _ (n .0) in
+    let q = both-right _ _ p in
+    subst Usable (sym y)
+    (record {
+      some-action = leb-true 1 (decode t .actions) (both-left _ _ p);
+      few-actions = leb-true (decode t .actions) 8 (both-left _ _ q);
+      short-delay = leb-true (decode t .delay) 6 (both-left _ _ (both-right _ _ q));
+      small-masks = small (both-right _ _ (both-right _ _ (both-right _ _ (m .0))));
+    })
+  where
+    small : allBelow (belowAt (2 ^ decode t .actions) (decode t .table .masks)) (length (decode t .table .masks)) ≡ true
+        → (k : ℕ) → getD (decode t .table .masks) k 0 < 2 ^ decode t .actions
+    small h k =
+        ⊎-elim
+        (λ (i : k < length (decode t .table .masks)). ltb-true _ _ (all-at _ _ h k i))
+        (λ (o : length (decode t .table .masks) ≤ k).
+        rw (List·getD-eq-default (decode t .table .masks) 0 o) (pow-pos (decode t .actions)))
+        (below? k (length (decode t .table .masks)))
+
+hear-any : (l : TableLayout) (f m : List ℕ) (s : State) (k p : ℕ) → observeWith (says l [] []) s k p ≡ observeWith (says l f m) s k p
+unfolding observeWith stateOk heldOk windowOk
+hear-any l f m s k p = refl
+
+-- the public operations; y is the reading
+
+module _ (t : List ℕ) (y : TableReading) (ey : reading t y ≡ tableAnswer t) where
+  module _ (l : TableLayout) (el : y ≡ table.Accepted l) where
+    answers : tableAnswer t ≡ accepted (tableAt t l)
+    answers = sym ey ∙ ap (reading t) el
+
+    pub read-usable : (f m : List ℕ) → f ≡ partAt t (l .flags) → m ≡ partAt t (l .masks) → Usable (says l f m)
+    read-usable f m ef em = rw (ef, em) (usable t (tableAt t l) answers)
+
+    pub read-short : l .delay ≤ 6
+    read-short = usable t (tableAt t l) answers .short-delay
+
+    pub opens : (r : Step) (s : State) → s ≡ opened → r ≡ step Accepted s → meaning r ≡ openReply t
+    unfolding openReply openAnswer onAccepted
+    opens r s o q = ap meaning q ∙ ap (λ s. meaning (step Accepted s)) o ∙ rw answers
+
+    pub hears : (r : Step) (s : State) (k p : ℕ) → meaning r ≡ afterHearing s (observeWith (says l [] []) s k p)
+        → meaning r ≡ reply t s (hear k p)
+    unfolding observeAnswer onAccepted
+    hears r s k p q = q ∙ ap (afterHearing s) (hear-any l (partAt t (l .flags)) (partAt t (l .masks)) s k p) ∙ rw answers
+
+    pub acts : (r : Step) (s : State) (f m : List ℕ) → f ≡ partAt t (l .flags) → m ≡ partAt t (l .masks)
+        → meaning r ≡ afterGiving s (actWith (says l f m) s) → meaning r ≡ reply t s ask
+    unfolding actAnswer onAccepted
+    acts r s f m ef em q = q ∙ ap₂ (λ f m. afterGiving s (actWith (says l f m) s)) ef em ∙ rw answers
+
+  module _ (n : Refusal) (en : y ≡ table.Refused n) where
+    refuses : tableAnswer t ≡ refused (numberOf n)
+    refuses = sym ey ∙ ap (reading t) en
+
+    pub opens-not : (r : Step) (s : State) → s ≡ opened → r ≡ step (Refused n) s → meaning r ≡ openReply t
+    unfolding openReply openAnswer onAccepted
+    opens-not r s o q = ap meaning q ∙ ap (λ s. meaning (step (Refused n) s)) o ∙ rw refuses
+
+    pub hears-not : (r : Step) (s : State) (k p : ℕ) → r ≡ step (Refused n) s → meaning r ≡ reply t s (hear k p)
+    unfolding observeAnswer onAccepted
+    hears-not r s k p q = ap meaning q ∙ rw refuses
+
+    pub acts-not : (r : Step) (s : State) → r ≡ step (Refused n) s → meaning r ≡ reply t s ask
+    unfolding actAnswer onAccepted
+    acts-not r s q = ap meaning q ∙ rw refuses
+
+pub ruleset call-laws = (needs, read-usable, read-short, opens, hears, acts, opens-not, hears-not, acts-not)

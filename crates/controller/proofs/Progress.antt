@@ -1,0 +1,402 @@
+-- The invariant of demand 3: after any calls the state says what was given and heard of the exact play, and so each next call
+-- has the right answer. Assumes nothing.
+use Prim.Native.Nat.{ℕ, zero, suc, _+_, _-_, _*_, _/_, _≤_, _<_}
+use mathlib.Core.Path.{_≡_, refl, sym, _∙_, ap, ap₂, subst}
+use mathlib.Core.Bool.{Bool, true, false, not, cond}
+use mathlib.Core.Logic.{⊎-elim}
+use mathlib.Core.List.{List, _∷_}
+use native.Mathlib.Omega.{arith}
+use lib.Dec.{eqb, leb}
+use lib.ListN.{length, getD, take, set, length-set, getD-replicate}
+use lib.Seq.{ext-getD, getD-take, length-take-le, getD-set-same, getD-set-other}
+use borrow.Author.Tests.{lt-ltb, le-ltb, le-leb, lt-leb, eq-eqb, ne-eqb, eqb-true, eqb-false}
+use Rattle.theory.specs.Fold.{both, either, anyOf}
+use Rattle.theory.specs.Answer.{Answer}
+use Rattle.theory.specs.Game.{Game, Legal}
+use Rattle.theory.specs.Play.{Play, origin, last, index, back, actionsOf, lastActions, Rule, IsRule}
+use Rattle.theory.specs.Table.{Table, flagged, Fits, Judged}
+use Rattle.theory.specs.Exact.{going, Run, playOf, playBy, commandAt, commandOf, exact, worked}
+use Rattle.theory.proofs.Fold.{bool, below?, both-true, both-false, either-left, all-below, any-of-cons, length-tabulate, getD-tabulate}
+use Rattle.theory.proofs.Plays.{back-play, play-position}
+use Rattle.theory.proofs.Exact.{Goes, exact-goes}
+use Rattle.table.specs.TableSheet.{TableSheet}
+use Rattle.controller.specs.State.{million, slots, unknown, seen, slotAt, heldAt, withinAt, heldOk, windowOk, stateOk, observed, pushed, shiftedAt, shifted, gaveState}
+use Rattle.controller.specs.Controller.{Gave, agrees, observeWith, wordOf, commandIn, reported, actWith}
+use Rattle.controller.specs.Accuracy.{Call, hear, ask, Reply, afterHearing, afterGiving, Progress, begun, turnOf, after, HasAt, isHeard, toGive, rightAnswer}
+use Rattle.controller.specs.declared.state.Slot.{Slot}
+use Rattle.controller.specs.declared.state.State.{State}
+use Rattle.controller.proofs.More.{word-actions, action-small, further, exact-further, worked-further}
+use Rattle.controller.proofs.Answers.{observe-16, observe-17, observe-18, observe-accepts, act-15, act-13, act-gives}
+
+-- what the sheet says is sound for the game: its numbers are the game's, and its table fits and is judged. All that demand 3
+-- needs of whoever made it
+pub record Sound (G : Game) (x : TableSheet) : Type 0 where
+  pub actions : x .actions ≡ G .actions
+  pub highest : suc (x .highest) ≡ G .positions
+  pub short-delay : x .delay ≤ 6
+  pub fits : Fits G (x .delay) (x .table)
+  pub judged : Judged G (x .delay) (x .table)
+
+-- a slot that is known exactly if b, and then at position p
+
+slot-within : (b : Bool) (p highest : ℕ) (v : Slot) → v ≡ cond b (seen p) unknown → p ≤ highest
+    → either (not (v .known)) (leb (v .position) highest) ≡ true
+unfolding either
+slot-within true p highest v e h = rw e (le-leb p highest h)
+slot-within false p highest v e h = rw e
+
+slot-agrees : (b : Bool) (p q : ℕ) (v : Slot) → v ≡ cond b (seen q) unknown → q ≡ p → agrees v p ≡ true
+unfolding agrees either
+slot-agrees true p q v e h = rw e (eq-eqb q p h)
+slot-agrees false p q v e h = rw e
+
+slot-known : (b : Bool) (p : ℕ) (v : Slot) → v ≡ cond b (seen p) unknown → v .known ≡ b
+slot-known true p v e = rw e
+slot-known false p v e = rw e
+
+-- one index more is heard
+heard-more : (k : ℕ) (heard : List ℕ) (j : ℕ) → k ≡ j → anyOf (λ m. eqb m j) (k ∷ heard) ≡ true
+heard-more k heard j e = rw (any-of-cons (λ m. eqb m j) k heard) (either-left _ _ (eq-eqb k j e))
+
+heard-other : (k : ℕ) (heard : List ℕ) (j : ℕ) → (k ≡ j → ⊥) → anyOf (λ m. eqb m j) (k ∷ heard) ≡ anyOf (λ m. eqb m j) heard
+unfolding either
+heard-other k heard j e = any-of-cons (λ m. eqb m j) k heard ∙ rw (ne-eqb k j e)
+
+-- while 2i < d the command needs no report and no word
+early-same : (A d : ℕ) (T : Table) (i p q v w : ℕ) → 2 * i < d → commandAt A d T i p v ≡ commandAt A d T i q w
+unfolding commandAt
+early-same A d T i p q v w h = rw (lt-ltb (2 * i) d h)
+
+module _ (G : Game) (legal : Legal G) (x : TableSheet) (sound : Sound G x) (w : ℕ) (w-flagged : flagged (x .table) w ≡ true) (rule : Rule) (is : IsRule G rule) where
+  pub goes : (n : ℕ) → Goes G (x .delay) (x .table) rule n
+  goes n = exact-goes G legal (x .delay) (x .table) (sound .fits) (sound .judged) w w-flagged rule is n
+
+  abbrev pub play : ℕ → Play
+  play n = goes n .play
+
+  pub record Follows (s : Progress) : Type 0 where
+    pub works : worked G rule (s .given) ≡ going (play (turnOf s))
+    pub acts : s .given ≡ actionsOf (play (turnOf s))
+    pub bound : turnOf s ≤ million
+    pub turn : s .state .turn ≡ turnOf s
+    pub latest-size : length (s .state .last) ≡ 3
+    pub latest : (k : ℕ) → k < 3 → getD (s .state .last) k 0 ≡ getD (s .given) k 0
+    pub window-size : length (s .state .window) ≡ slots
+    -- a slot of the window is known exactly if its index is heard, and has the position of the exact play
+    pub slot : (k : ℕ) → k ≤ x .delay → k ≤ 2 * turnOf s
+        → slotAt (s .state) k ≡ cond (isHeard s (2 * turnOf s - k)) (seen (last G (back k (play (turnOf s))))) unknown
+    pub unheard : (j : ℕ) → 2 * turnOf s < j → isHeard s j ≡ false
+
+  -- the exact play's turns
+
+  next-play : (n : ℕ) → play (suc n) ≡ further G (x .delay) (x .table) rule n (goes n)
+  next-play n =
+      let a = goes (suc n) .is in
+      let b = exact-further G (x .delay) (x .table) rule n (goes n) in
+      cc
+
+  first-play : play 0 ≡ origin
+  unfolding exact playBy
+  first-play = let a = goes 0 .is in cc
+
+  pub begins : Follows begun
+  unfolding worked slotAt anyOf actionsOf
+  begins =
+      record {
+        works = ap going (sym first-play);
+        acts = ap actionsOf (sym first-play);
+        bound = omega arith;
+        turn = refl;
+        latest-size = refl;
+        latest = λ k h. getD-replicate 3 k 0 0 h;
+        window-size = refl;
+        slot = λ k h l. getD-replicate 7 k unknown unknown (omega arith);
+        unheard = λ j h. refl;
+      }
+
+  -- 20 is never answered
+
+  position-small : (n k : ℕ) → last G (back k (play n)) ≤ x .highest
+  position-small n k = omega (arith, play-position legal (back-play k (goes n .of-game)), sound .highest)
+
+  module _ (s : Progress) (f : Follows s) where
+    held-small : (k : ℕ) → k < 3 → k < turnOf s → heldAt (x .actions) (s .state .last) k ≡ true
+    unfolding heldAt
+    held-small k h l =
+        let a : length (s .given) ≡ length (actionsOf (play (turnOf s))) = ap length (f .acts) in
+        let b = f .latest k h in
+        let e : getD (s .given) k 0 ≡ getD (actionsOf (play (turnOf s))) k 0 = ap (λ l. getD l k 0) (f .acts) in
+        let c = action-small legal (goes (turnOf s) .of-game) k (omega arith) in
+        lt-ltb (getD (s .state .last) k 0) (x .actions) (omega (arith, sound .actions))
+
+    window-small : (k : ℕ) → k ≤ x .delay → k ≤ 2 * turnOf s → withinAt (x .highest) (s .state .window) k ≡ true
+    unfolding withinAt slotAt
+    window-small k h l =
+        slot-within (isHeard s (2 * turnOf s - k)) (last G (back k (play (turnOf s)))) (x .highest) _ (f .slot k h l)
+        (position-small (turnOf s) k)
+
+    pub good-state : stateOk x (s .state) ≡ true
+    unfolding stateOk heldOk windowOk
+    good-state =
+        let t = f .turn in
+        let d = sound .short-delay in
+        let b = f .bound in
+        both-true _ _ (le-leb (s .state .turn) million (omega arith))
+        (both-true _ _ (all-below _ _ (λ k h. held-small k (omega arith) (omega arith)))
+        (all-below _ _ (λ k h. window-small k (omega arith) (omega arith))))
+
+  -- a call's answer is the right one, and the invariant holds after it
+  abbrev pub Right : Progress → Call → Reply → Type 0
+  Right s c r = (r .outcome ≡ rightAnswer G x rule s c) × Follows (after s c r)
+
+  module _ (s : Progress) (f : Follows s) (k p : ℕ) where
+    -- a report of an index in the window is true of the exact play
+    told : HasAt G (worked G rule (s .given)) k p → last G (back (2 * turnOf s - k) (play (turnOf s))) ≡ p
+    told (h, e) =
+        ap (λ n. last G (back (n - k) (play (turnOf s)))) (sym (goes (turnOf s) .index-is))
+        ∙ ap (λ (r : Run). last G (back (index (playOf r) - k) (playOf r))) (sym (f .works))
+        ∙ e
+
+    module _ (l : 2 * turnOf s ≤ k + x .delay) (u : k ≤ 2 * turnOf s) (e : last G (back (2 * turnOf s - k) (play (turnOf s))) ≡ p) where
+      heard-agrees : agrees (slotAt (s .state) (2 * s .state .turn - k)) p ≡ true
+      heard-agrees =
+          ap (λ n. agrees (slotAt (s .state) (2 * n - k)) p) (f .turn)
+          ∙ slot-agrees (isHeard s (2 * turnOf s - (2 * turnOf s - k))) p _ _ (f .slot (2 * turnOf s - k) (omega arith) (omega arith)) e
+
+      heard-slot : (j : ℕ) → j ≤ x .delay → j ≤ 2 * turnOf s
+          → getD (set (s .state .window) (2 * turnOf s - k) (seen p)) j unknown
+          ≡ cond (anyOf (λ m. eqb m (2 * turnOf s - j)) (k ∷ s .heard)) (seen (last G (back j (play (turnOf s))))) unknown
+      unfolding slotAt
+      heard-slot j h g =
+          ⊎-elim
+          (λ (t : eqb j (2 * turnOf s - k) ≡ true).
+          let q : j ≡ 2 * turnOf s - k = eqb-true j (2 * turnOf s - k) t in
+          let z = f .window-size in
+          let b = sound .short-delay in
+          ap (λ i. getD (set (s .state .window) (2 * turnOf s - k) (seen p)) i unknown) q
+          ∙ getD-set-same (s .state .window) (2 * turnOf s - k) (seen p) unknown (omega arith)
+          ∙ ap seen (sym e ∙ ap (λ i. last G (back i (play (turnOf s)))) (sym q))
+          ∙ ap (λ b. cond b (seen (last G (back j (play (turnOf s))))) unknown)
+          (sym (heard-more k (s .heard) (2 * turnOf s - j) (omega arith))))
+          (λ (t : eqb j (2 * turnOf s - k) ≡ false).
+          let q = eqb-false j (2 * turnOf s - k) t in
+          getD-set-other (s .state .window) (2 * turnOf s - k) j (seen p) unknown q
+          ∙ f .slot j h g
+          ∙ ap (λ b. cond b (seen (last G (back j (play (turnOf s))))) unknown)
+          (sym (heard-other k (s .heard) (2 * turnOf s - j) (λ r. q (omega arith)))))
+          (bool (eqb j (2 * turnOf s - k)))
+
+      heard-follows : Follows (record { state = observed (s .state) k p; given = s .given; heard = k ∷ s .heard })
+      unfolding slotAt
+      heard-follows =
+          record {
+            works = f .works;
+            acts = f .acts;
+            bound = f .bound;
+            turn = f .turn;
+            latest-size = f .latest-size;
+            latest = f .latest;
+            window-size = length-set (s .state .window) (2 * s .state .turn - k) (seen p) ∙ f .window-size;
+            slot =
+                λ j h g.
+                ap (λ n. getD (set (s .state .window) (2 * n - k) (seen p)) j unknown) (f .turn) ∙ heard-slot j h g;
+            unheard = λ j h. heard-other k (s .heard) j (λ r. omega arith) ∙ f .unheard j h;
+          }
+
+    abbrev heardBy : Answer State → Type 0
+    heardBy a = Right s (hear k p) (afterHearing (s .state) a)
+
+    pub hear-right : (2 * turnOf s ≤ k + x .delay → k ≤ 2 * turnOf s → HasAt G (worked G rule (s .given)) k p)
+        → heardBy (observeWith x (s .state) k p)
+    hear-right true-of =
+        let t = f .turn in
+        let good = good-state s f in
+        ⊎-elim
+        (λ (o : x .highest < p).
+        subst heardBy (sym (observe-16 x (s .state) k p good o)) (rw (lt-ltb (x .highest) p o), f))
+        (λ (h : p ≤ x .highest).
+        ⊎-elim
+        (λ (o : k + x .delay < 2 * turnOf s).
+        subst heardBy (sym (observe-17 x (s .state) k p good h (omega arith)))
+        (rw (le-ltb (x .highest) p h, lt-ltb (k + x .delay) (2 * turnOf s) o), f))
+        (λ (l : 2 * turnOf s ≤ k + x .delay).
+        ⊎-elim
+        (λ (o : 2 * turnOf s < k).
+        subst heardBy (sym (observe-18 x (s .state) k p good h (omega arith)))
+        (rw (le-ltb (x .highest) p h, le-ltb (k + x .delay) (2 * turnOf s) l, lt-ltb (2 * turnOf s) k o), f))
+        (λ (u : k ≤ 2 * turnOf s).
+        let e = told (true-of l u) in
+        subst heardBy
+        (sym (observe-accepts x (s .state) k p good h (omega arith) (omega arith) (heard-agrees l u e))) (
+          rw (le-ltb (x .highest) p h, le-ltb (k + x .delay) (2 * turnOf s) l, le-ltb (2 * turnOf s) k u),
+          heard-follows l u e,
+        ))
+        (below? (2 * turnOf s) k))
+        (below? (k + x .delay) (2 * turnOf s)))
+        (below? (x .highest) p)
+
+  module _ (s : Progress) (f : Follows s) where
+    abbrev needed : ℕ
+    needed = 2 * turnOf s - x .delay
+
+    -- refusal 13's test is that of the claim
+    reported-early : 2 * turnOf s < x .delay → reported x (s .state) ≡ true
+    unfolding reported
+    reported-early l = let t = f .turn in either-left _ _ (lt-ltb (2 * s .state .turn) (x .delay) (omega arith))
+
+    reported-late : x .delay ≤ 2 * turnOf s → reported x (s .state) ≡ isHeard s needed
+    unfolding reported either
+    reported-late g =
+        let t = f .turn in
+        rw (le-ltb (2 * s .state .turn) (x .delay) (omega arith))
+        (slot-known (isHeard s needed) _ _ (f .slot (x .delay) (omega arith) g))
+
+    -- the word that the state holds is that of the play
+    word-is : x .delay / 2 ≤ turnOf s
+        → wordOf (G .actions) (take (x .delay / 2) (s .state .last)) ≡ lastActions (G .actions) (play (turnOf s)) (x .delay / 2)
+    word-is h =
+        let d = sound .short-delay in
+        let z = f .latest-size in
+        ap (wordOf (G .actions))
+        (ext-getD 0 _ _
+        (length-take-le (x .delay / 2) (s .state .last) (omega arith) ∙ sym (length-take-le (x .delay / 2) (s .given) h))
+        (λ k l.
+        let m : k < x .delay / 2 = rw (length-take-le (x .delay / 2) (s .state .last) (omega arith)) at l in
+        getD-take (x .delay / 2) (s .state .last) k 0 m
+        ∙ f .latest k (omega arith)
+        ∙ sym (getD-take (x .delay / 2) (s .given) k 0 m))
+        ∙ ap (take (x .delay / 2)) (f .acts))
+        ∙ sym (word-actions (G .actions) (play (turnOf s)) (x .delay / 2))
+
+    -- the command of the state's turn is the exact play's
+    command-by : commandIn x (s .state)
+        ≡ commandAt (G .actions) (x .delay) (x .table) (turnOf s) (slotAt (s .state) (x .delay) .position)
+        (wordOf (G .actions) (take (x .delay / 2) (s .state .last)))
+    unfolding commandIn
+    command-by =
+        ap₂
+        (λ A n.
+        commandAt A (x .delay) (x .table) n (slotAt (s .state) (x .delay) .position)
+        (wordOf A (take (x .delay / 2) (s .state .last))))
+        (sound .actions)
+        (f .turn)
+
+    exact-command : commandOf G (x .delay) (x .table) (play (turnOf s))
+        ≡ commandAt (G .actions) (x .delay) (x .table) (turnOf s) (last G (back (x .delay) (play (turnOf s))))
+        (lastActions (G .actions) (play (turnOf s)) (x .delay / 2))
+    unfolding commandOf
+    exact-command =
+        ap
+        (λ n.
+        commandAt (G .actions) (x .delay) (x .table) n (last G (back (x .delay) (play (turnOf s))))
+        (lastActions (G .actions) (play (turnOf s)) (x .delay / 2)))
+        (goes (turnOf s) .turn)
+
+    command-early : 2 * turnOf s < x .delay → commandIn x (s .state) ≡ commandOf G (x .delay) (x .table) (play (turnOf s))
+    command-early l =
+        command-by ∙ early-same (G .actions) (x .delay) (x .table) (turnOf s) _ _ _ _ l ∙ sym exact-command
+
+    command-late : x .delay ≤ 2 * turnOf s → isHeard s needed ≡ true
+        → commandIn x (s .state) ≡ commandOf G (x .delay) (x .table) (play (turnOf s))
+    command-late g known =
+        let v : slotAt (s .state) (x .delay) ≡ seen (last G (back (x .delay) (play (turnOf s)))) =
+        f .slot (x .delay) (omega arith) g
+        ∙ ap (λ b. cond b (seen (last G (back (x .delay) (play (turnOf s))))) unknown) known in
+        command-by
+        ∙ ap₂ (commandAt (G .actions) (x .delay) (x .table) (turnOf s)) (ap (λ (v : Slot). v .position) v) (word-is (omega arith))
+        ∙ sym exact-command
+
+    -- a turn later
+
+    abbrev action : ℕ
+    action = goes (turnOf s) .action
+
+    pushed-latest : (k : ℕ) → k < 3 → getD (pushed action (s .state .last)) k 0 ≡ getD (action ∷ s .given) k 0
+    unfolding pushed
+    pushed-latest zero h = refl
+    pushed-latest (suc zero) h = f .latest 0 (omega arith)
+    pushed-latest (suc (suc zero)) h = f .latest 1 (omega arith)
+    pushed-latest (suc (suc (suc k))) h = absurd (omega arith)
+
+    -- a slot of age k + 2 is the one of age k a turn before
+    shifted-slot : (k : ℕ) → k ≤ x .delay → k ≤ 2 * suc (turnOf s)
+        → shiftedAt (x .delay) (s .state .window) k
+        ≡ cond (isHeard s (2 * suc (turnOf s) - k)) (seen (last G (back k (play (suc (turnOf s)))))) unknown
+    unfolding shiftedAt both slotAt back
+    shifted-slot zero h l = rw (f .unheard (2 * suc (turnOf s) - 0) (omega arith))
+    shifted-slot (suc zero) h l = rw (f .unheard (2 * suc (turnOf s) - 1) (omega arith))
+    shifted-slot (suc (suc k)) h l =
+        let a : suc (suc k) - 2 ≡ k = omega arith in
+        let b : 2 * turnOf s - k ≡ 2 * suc (turnOf s) - suc (suc k) = omega arith in
+        rw (le-leb 2 (suc (suc k)) (omega arith), le-leb (suc (suc k)) (x .delay) h)
+        (ap (λ j. getD (s .state .window) j unknown) a
+        ∙ f .slot k (omega arith) (omega arith)
+        ∙ ap₂ (λ j q. cond (isHeard s j) (seen q) unknown) b
+        (ap (λ π. last G (back (suc (suc k)) π)) (sym (next-play (turnOf s)))))
+
+    given-follows : turnOf s < million
+        → Follows (record { state = gaveState (x .delay) (s .state) action; given = action ∷ s .given; heard = s .heard })
+    unfolding slotAt actionsOf shifted pushed
+    given-follows m =
+        let n = next-play (turnOf s) in
+        let d = sound .short-delay in
+        record {
+          works =
+              worked-further G (x .delay) (x .table) rule (turnOf s) (goes (turnOf s)) (s .given) (f .works) ∙ ap going (sym n);
+          acts = ap (λ l. action ∷ l) (f .acts) ∙ ap actionsOf (sym n);
+          bound = m;
+          turn = ap suc (f .turn);
+          latest-size = refl;
+          latest = pushed-latest;
+          window-size = length-tabulate (shiftedAt (x .delay) (s .state .window)) 0 slots;
+          slot =
+              λ k h l.
+              getD-tabulate (shiftedAt (x .delay) (s .state .window)) slots k unknown (omega arith) ∙ shifted-slot k h l;
+          unheard = λ j h. f .unheard j (omega arith);
+        }
+
+    abbrev givenBy : Answer Gave → Type 0
+    givenBy a = Right s ask (afterGiving (s .state) a)
+
+    -- the command is given where refusals 15 and 13 pass
+    given-right : turnOf s < million → reported x (s .state) ≡ true
+        → both (leb (x .delay) (2 * turnOf s)) (not (isHeard s needed)) ≡ false
+        → commandIn x (s .state) ≡ commandOf G (x .delay) (x .table) (play (turnOf s)) → givenBy (actWith x (s .state))
+    given-right m r b c =
+        let t = f .turn in
+        let g = goes (turnOf s) in
+        subst givenBy
+        (sym
+        (act-gives x (s .state) (good-state s f) (λ (q : s .state .turn ≡ million). omega arith) r action
+        (c ∙ g .commanded))) (
+          rw (ne-eqb (turnOf s) million (λ (q : turnOf s ≡ million). omega arith), b)
+              (ap toGive (sym (ap (λ (r : Run). commandOf G (x .delay) (x .table) (playOf r)) (g .is) ∙ g .commanded))),
+          given-follows m,
+        )
+
+    pub ask-right : givenBy (actWith x (s .state))
+    unfolding both
+    ask-right =
+        let t = f .turn in
+        let u = f .bound in
+        ⊎-elim
+        (λ (e : eqb (turnOf s) million ≡ true).
+        let q : turnOf s ≡ million = eqb-true (turnOf s) million e in
+        subst givenBy (sym (act-15 x (s .state) (good-state s f) (f .turn ∙ q))) (rw e, f))
+        (λ (e : eqb (turnOf s) million ≡ false).
+        let q = eqb-false (turnOf s) million e in
+        let m : turnOf s < million = omega arith in
+        ⊎-elim
+        (λ (l : 2 * turnOf s < x .delay).
+        given-right m (reported-early l) (rw (lt-leb (x .delay) (2 * turnOf s) l)) (command-early l))
+        (λ (g : x .delay ≤ 2 * turnOf s).
+        ⊎-elim
+        (λ (k : isHeard s needed ≡ true).
+        given-right m (reported-late g ∙ k) (both-false (leb (x .delay) (2 * turnOf s)) _ (ap not k)) (command-late g k))
+        (λ (k : isHeard s needed ≡ false).
+        subst givenBy
+        (sym (act-13 x (s .state) (good-state s f) (λ r. q (sym t ∙ r)) (reported-late g ∙ k)))
+        (rw (e, le-leb (x .delay) (2 * turnOf s) g, k), f))
+        (bool (isHeard s needed)))
+        (below? (2 * turnOf s) (x .delay)))
+        (bool (eqb (turnOf s) million))

@@ -1,0 +1,179 @@
+// Opening, hearing a report and giving a command, over the bytes of a table sheet: each reads them on every call.
+use crate::checks::state_ok;
+use crate::commands::action_of;
+use crate::commands::least_flagged;
+use crate::commands::lowest;
+use crate::commands::mask_at;
+use crate::state::LAST_TURN;
+use crate::state::Slot;
+use crate::state::State;
+use crate::state::agrees;
+use crate::state::opened;
+use crate::state::pushed;
+use crate::state::shifted;
+use crate::state::slot_in;
+use sheet::form::part;
+use sheet::form::wide;
+use sheet::refusal::Refusal;
+use table::reading::TableLayout;
+use table::reading::TableReading;
+use table::reading::read;
+ghost use mathlib.Core.Path.{_≡_};
+ghost use mathlib.Core.List.{[]};
+ghost use Prim.Native.Nat.{_≤_, _<_};
+ghost use Rattle.table.specs.TableSheet.{says};
+ghost use Rattle.sheet.specs.Limits.{mostDelay};
+ghost use Rattle.controller.specs.State.{million, gaveState};
+ghost use Rattle.controller.specs.Controller.{observeWith, actWith};
+ghost use Rattle.controller.specs.Accuracy.{hear, ask, afterHearing, afterGiving, reply};
+ghost use Rattle.controller.specs.Meaning.{meaning, openReply, Usable};
+
+// What a call answers.
+pub enum Decision {
+    Accepted,
+    Given(u8),
+    Refused(Refusal),
+}
+
+// The answer, and the state after the call: the one before it where the answer is a refusal.
+pub struct Step {
+    pub decision: Decision,
+    pub state: State,
+}
+
+fn refuse(s: State, reason: Refusal) -> Step
+    ensures { λ r. ⌜ r ≡ record { decision = Decision.Refused reason; state = s } ⌝ }
+{
+    Step {
+        decision: Decision::Refused(reason),
+        state: s,
+    }
+}
+
+fn accept(s: State) -> Step
+    ensures { λ r. ⌜ r ≡ record { decision = Decision.Accepted; state = s } ⌝ }
+{
+    Step {
+        decision: Decision::Accepted,
+        state: s,
+    }
+}
+
+fn give(delay: u8, s: State, action: u8) -> Step
+    requires { ⌜ s .turn < million ⌝ }
+    ensures { λ r. ⌜ r ≡ record { decision = Decision.Given action; state = gaveState delay s action } ⌝ }
+{
+    let last = s.last;
+    let window = s.window;
+    let newest = pushed(action, last);
+    let later = shifted(delay, window);
+    let next = State {
+        turn: s.turn + 1,
+        last: newest,
+        window: later,
+    };
+    Step {
+        decision: Decision::Given(action),
+        state: next,
+    }
+}
+
+// Hearing, after 10 to 12.
+fn observe_with(l: TableLayout, s: State, index: usize, position: u8) -> Step
+    requires { ⌜ l .delay ≤ mostDelay ⌝ }
+    ensures { λ r. ⌜ meaning r ≡ afterHearing s (observeWith (says l [] []) s index position) ⌝ }
+{
+    if !state_ok(l, s) {
+        return refuse(s, Refusal::State);
+    }
+    if l.highest < position {
+        return refuse(s, Refusal::UnknownPosition);
+    }
+    let newest = 2 * s.turn;
+    if newest < index {
+        return refuse(s, Refusal::TooNew);
+    }
+    let age = newest - index;
+    if wide(l.delay) < age {
+        return refuse(s, Refusal::TooOld);
+    }
+    let window = s.window;
+    if !agrees(slot_in(window, age), position) {
+        return refuse(s, Refusal::Contradiction);
+    }
+    let mut next = s;
+    next.window[age] = Slot {
+        known: true,
+        position,
+    };
+    accept(next)
+}
+
+// Giving, after 10 to 12, with the W and T bodies.
+fn act_with(l: TableLayout, flags: &[u8], masks: &[u8], s: State) -> Step
+    requires { ⌜ Usable (says l (now flags) (now masks)) ⌝ }
+    ensures { λ r. ⌜ meaning r ≡ afterGiving s (actWith (says l (now (flags .entry)) (now (masks .entry))) s) ⌝ }
+{
+    if !state_ok(l, s) {
+        return refuse(s, Refusal::State);
+    }
+    let turn = s.turn;
+    if turn == LAST_TURN {
+        return refuse(s, Refusal::LastTurn);
+    }
+    let delay = wide(l.delay);
+    if 2 * turn < delay {
+        let word = least_flagged(flags);
+        return give(
+            l.delay,
+            s,
+            action_of(l.actions, (delay + 1) / 2, word, turn),
+        );
+    }
+    let window = s.window;
+    let slot = slot_in(window, delay);
+    if !slot.known {
+        return refuse(s, Refusal::Unobserved);
+    }
+    let last = s.last;
+    let mask = mask_at(l, masks, slot.position, last);
+    if mask == 0 {
+        return refuse(s, Refusal::NoAction);
+    }
+    give(l.delay, s, lowest(mask))
+}
+
+// Opening. Beside a refusal stands the opened state too.
+pub fn opening(sheet: &[u8]) -> Step
+    ensures { λ r. ⌜ meaning r ≡ openReply (now (sheet .entry)) ⌝ }
+{
+    let s = opened();
+    match read(sheet) {
+        TableReading::Accepted(_) => accept(s),
+        TableReading::Refused(reason) => refuse(s, reason),
+    }
+}
+
+// Hearing a report: a position at an index.
+pub fn observe(sheet: &[u8], s: State, index: usize, position: u8) -> Step
+    ensures { λ r. ⌜ meaning r ≡ reply (now (sheet .entry)) s (hear index position) ⌝ }
+{
+    match read(sheet) {
+        TableReading::Accepted(l) => observe_with(l, s, index, position),
+        TableReading::Refused(reason) => refuse(s, reason),
+    }
+}
+
+// Giving the command of the state's turn.
+pub fn act(sheet: &[u8], s: State) -> Step
+    ensures { λ r. ⌜ meaning r ≡ reply (now (sheet .entry)) s ask ⌝ }
+{
+    match read(sheet) {
+        TableReading::Accepted(l) => {
+            let flags = l.flags;
+            let masks = l.masks;
+            act_with(l, part(sheet, flags), part(sheet, masks), s)
+        }
+        TableReading::Refused(reason) => refuse(s, reason),
+    }
+}
