@@ -20,12 +20,11 @@ use Rattle.theory.specs.Words.{digit}
 use Rattle.theory.specs.Strategy.{initialLength}
 use Rattle.theory.specs.Table.{flagged}
 use Rattle.theory.specs.Exact.{give, leastFlagged, lowestIn, commandAt}
-use Rattle.theory.proofs.Fold.{both-left, both-right, either-left, all-at, below?}
+use Rattle.theory.proofs.Fold.{both-left, both-right, either-left, all-at, below?, failed, passed}
 use Rattle.theory.proofs.Answer.{check-accepted, accepted-on}
 use Rattle.theory.proofs.Masks.{lowest-gives, lowest-missing, lowest-trailing}
 use Rattle.sheet.specs.Form.{partAt}
 use Rattle.sheet.specs.Refusals.{numberOf}
-use Rattle.sheet.proofs.More.{failed, passed}
 use Rattle.sheet.specs.declared.refusal.Refusal.{Refusal}
 use Rattle.sheet.specs.declared.refusal.Refusal.the-variants as refusal
 use Rattle.table.specs.TableSheet.{TableSheet, says, tableAt, decode, numbersOk, belowAt, bytesBelow, bodiesOk, shapeAnswer, tableAnswer, meaning as reading}

@@ -12,7 +12,7 @@ use Rattle.theory.specs.Answer.{accepted}
 use Rattle.theory.specs.Game.{Game, Legal}
 use Rattle.theory.specs.Rounds.{finalRanks}
 use Rattle.theory.specs.Delay.{Verdict, wins, losing, winning, words, arena, answer}
-use Rattle.theory.proofs.Answer.{check-accepted, accepted-on}
+use Rattle.theory.proofs.Answer.{check-accepted, accepted-on, accepted-same}
 use Rattle.theory.proofs.Rounds.{final-length}
 use Rattle.theory.proofs.Tables.{legal-actions}
 use Rattle.sheet.specs.Form.{entrySize}
@@ -27,7 +27,7 @@ use Rattle.solver.specs.Solving.{solveAnswer}
 use Rattle.table.specs.Writing.{part}
 use Rattle.table.specs.TableSheet.{tableAnswer}
 use Rattle.table.specs.Making.{headerOf, rankBytes, winningSheet, losingSheet, Made, won, madeOf, outputSize, makeAnswer}
-use Rattle.table.proofs.More.{accepted-same, wins-winning}
+use Rattle.table.proofs.More.{wins-winning}
 use Rattle.table.proofs.Sheets.{before, length-sheet}
 use Rattle.table.proofs.Readable.{Ranged, tableFor, winning-length, made-readable}
 

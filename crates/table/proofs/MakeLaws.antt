@@ -17,8 +17,8 @@ use Rattle.theory.specs.Game.{Game}
 use Rattle.theory.specs.Strategy.{initialLength}
 use Rattle.theory.specs.Rounds.{masks, finalRanks}
 use Rattle.theory.specs.Delay.{Verdict, wins, losing, winning, initialWords, arena, flags, answerBy, answer}
-use Rattle.theory.proofs.Fold.{bool, both-true, both-false, both-left, both-right, all-fails, first}
-use Rattle.theory.proofs.Answer.{refused-not-accepted, check-passed}
+use Rattle.theory.proofs.Fold.{bool, both-true, both-false, both-left, both-right, all-fails, first, both-none}
+use Rattle.theory.proofs.Answer.{refused-not-accepted, check-passed, accepted-same}
 use Rattle.theory.proofs.Rounds.{final-length}
 use Rattle.theory.proofs.Ours.{ours-fits}
 use Rattle.theory.specs.Table.{ours}
@@ -26,7 +26,6 @@ use Rattle.sheet.specs.Refusals.{numberOf}
 use Rattle.sheet.specs.Checks.{nodesOf}
 use Rattle.sheet.specs.Reading.{readAnswer, delayOf, actionCount, meaning, refusalNumber}
 use Rattle.sheet.specs.Meant.{gameOf}
-use Rattle.sheet.proofs.More.{both-none}
 use Rattle.sheet.proofs.Accepted.{read-is, ranges, carries, arena-nodes}
 use Rattle.sheet.specs.declared.refusal.Refusal.{Refusal}
 use Rattle.sheet.specs.declared.reading.Layout.{Layout}
@@ -40,7 +39,7 @@ use Rattle.solver.specs.declared.solve.Solution.{Solution}
 use Rattle.solver.specs.declared.solve.Solution.the-variants as solution
 use Rattle.solver.specs.Flags.{flagWith, countIn, flagsCount, flagsAfter}
 use Rattle.table.specs.Making.{headerOf, headerBytes, tableBytes, rankBytes, winningSheet, losingSheet, Made, won, lost, madeOf, outputSize, shortOf, makeAnswer, ifMade, outputAfter, Measured, measureOf, measured, Small, Begins, Ready, Solved}
-use Rattle.table.proofs.More.{accepted-same, power-bound}
+use Rattle.table.proofs.More.{power-bound}
 use Rattle.table.proofs.Made.{sheet-ranged, winning-fits, losing-fits}
 
 -- checks 8 and 9; n and w are the nodes and first words that the code has counted, x the refusal's number

@@ -16,8 +16,7 @@ use Rattle.theory.specs.Answer.{Answer, refused, accepted, check, onAccepted}
 use Rattle.theory.specs.Strategy.{initialLength}
 use Rattle.theory.specs.Table.{Table, flagged}
 use Rattle.theory.proofs.Answer.{check-passed}
-use Rattle.theory.proofs.Fold.{both-false, both-left, both-right, all-none, all-done, any-none, any-holds, any-again, any-done}
-use Rattle.sheet.proofs.More.{both-none, both-second, failed, passed, all-next, all-stopped}
+use Rattle.theory.proofs.Fold.{both-false, both-left, both-right, all-none, all-done, any-none, any-holds, any-again, any-done, both-none, both-second, failed, passed, all-next, all-stopped}
 use Rattle.sheet.specs.Form.{contentsOk, placedAt, partAt, bodyOf}
 use Rattle.sheet.specs.Checks.{powerTo, nodesOf}
 use Rattle.sheet.specs.Refusals.{numberOf}

@@ -3,8 +3,7 @@ use Prim.Native.Nat.{_≤_, _-_}
 use mathlib.Core.Path.{_≡_}
 use mathlib.Core.Bool.{true}
 use lib.ListN.{length}
-use Rattle.controller.proofs.CommandLaws.{noneBefore}
-use Rattle.controller.proofs.CommandLaws.{least-laws}
+use Rattle.controller.proofs.CommandLaws.{noneBefore, least-laws}
 use Rattle.controller.proofs.commands.least_flagged.Statement.{statement}
 use Rattle.controller.proofs.commands.least_flagged.Tie as tie
 
