@@ -21,7 +21,7 @@ use Rattle.theory.specs.Exact.{leastFlagged}
 use Rattle.theory.proofs.Fold.{first, first-suc, first-unique, all-none, all-again, all-at, all-fails}
 use Rattle.theory.proofs.Words.{digit-shorter}
 use Rattle.sheet.specs.Checks.{powerTo}
-use Rattle.table.proofs.More.{power-bound, small-power}
+use Rattle.sheet.proofs.SizeLaws.{power-bound, small-power}
 use Rattle.controller.specs.Controller.{wordOf}
 
 -- the least first word

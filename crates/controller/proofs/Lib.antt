@@ -1,5 +1,5 @@
 -- The theorems over specs/.
-pub mod More
+pub mod PlayLaws
 pub mod Answers
 pub mod StateLaws
 pub mod CommandLaws

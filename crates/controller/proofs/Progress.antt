@@ -25,7 +25,7 @@ use Rattle.controller.specs.Controller.{Gave, agrees, observeWith, wordO
 use Rattle.controller.specs.Accuracy.{Call, hear, ask, Reply, afterHearing, afterGiving, Progress, begun, turnOf, after, HasAt, isHeard, toGive, rightAnswer}
 use Rattle.controller.specs.declared.state.Slot.{Slot}
 use Rattle.controller.specs.declared.state.State.{State}
-use Rattle.controller.proofs.More.{word-actions, action-small, further, exact-further, worked-further}
+use Rattle.controller.proofs.PlayLaws.{word-actions, action-small, further, exact-further, worked-further}
 use Rattle.controller.proofs.Answers.{observe-16, observe-17, observe-18, observe-accepts, act-15, act-13, act-gives}
 
 -- what the sheet says is sound for the game: its numbers are the game's, and its table fits and is judged. All that demand 3

@@ -26,7 +26,7 @@ use Rattle.solver.specs.declared.solve.Solution.{Solution}
 use Rattle.solver.specs.declared.solve.Solution.the-variants as solution
 use Rattle.lister.specs.Listing.{wonText, lostText, gameText, solvedText}
 use Rattle.lister.specs.Parts.{Small, flagsIn}
-use Rattle.lister.proofs.More.{over-first, over-room}
+use Rattle.solver.proofs.Over.{over-first, over-room}
 use Rattle.lister.proofs.Words.{flags-are}
 
 -- what solving accepts was read, and its verdict is the answer

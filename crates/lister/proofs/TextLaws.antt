@@ -14,13 +14,13 @@ use Rattle.text.proofs.Page.{after}
 use Rattle.solver.specs.Flags.{flagsCount, flagsAfter}
 use Rattle.lister.specs.Listing.{wonText, lostText}
 use Rattle.lister.specs.Parts.{Small, blank, flagsIn}
-use Rattle.lister.proofs.More.{power-small}
+use Rattle.sheet.proofs.SizeLaws.{power-bound}
 
 -- the number of nodes
 pub nodes-are : (p a d v w : ℕ) → Small p a d → v ≡ d → w ≡ powerTo a (v / 2) → p * w ≡ nodesOf p a d
 unfolding nodesOf powerTo
 nodes-are p a d v w s e f =
-    let few : a ^ (d / 2) ≤ 512 = power-small a (d / 2) (s .few-actions) (omega (arith, s .short-delay)) in
+    let few : a ^ (d / 2) ≤ 512 = power-bound a (d / 2) (s .few-actions) (omega (arith, s .short-delay)) in
     rw (f, e, le-leb (a ^ (d / 2)) 65536 (omega arith))
 
 -- the lines of good first words

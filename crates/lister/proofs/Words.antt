@@ -19,7 +19,8 @@ use Rattle.sheet.proofs.Accepted.{read-is, ranges}
 use Rattle.solver.specs.Flags.{flagWith, flagsCount, flagsAfter}
 use Rattle.solver.proofs.FlagLaws.{words-counted, flags-theory}
 use Rattle.lister.specs.Parts.{blank, flagsIn}
-use Rattle.lister.proofs.More.{over-first, over-room, power-small}
+use Rattle.solver.proofs.Over.{over-first, over-room}
+use Rattle.sheet.proofs.SizeLaws.{power-bound}
 
 blank-length : length blank ≡ 512
 blank-length = simp length-replicate
@@ -44,7 +45,7 @@ module _ (s : List ℕ) (l : Layout) (read : readAnswer s ≡ accepted l) where
   unfolding initialWords gameOf
   few-words =
       let r = ranges s (read-is s l read .0) in
-      power-small (gameOf s .actions) (initialLength (delayOf s)) (r .few-actions) (omega (arith, r .short-delay))
+      power-bound (gameOf s .actions) (initialLength (delayOf s)) (r .few-actions) (omega (arith, r .short-delay))
 
   pub flags-length : length (flags (gameOf s) (delayOf s)) ≡ initialWords (gameOf s) (delayOf s)
   unfolding flags

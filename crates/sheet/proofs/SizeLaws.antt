@@ -5,7 +5,7 @@ use mathlib.Core.Bool.{true, false, cond}
 use mathlib.Core.Logic.{⊎-elim}
 use mathlib.Core.List.{List}
 use native.Mathlib.Omega.{arith}
-use native.Mathlib.Nat.{pow-zero, pow-suc, pow-le-pow-right, le-of-lt, mul-le-mul, mul-le-mul-left, mul-le-mul-right, mul-zero, zero-mul}
+use native.Mathlib.Nat.{le-trans, pow-le-pow-left, pow-zero, pow-suc, pow-le-pow-right, le-of-lt, mul-le-mul, mul-le-mul-left, mul-le-mul-right, mul-zero, zero-mul}
 use native.Mathlib.Numerals.{add-one}
 use lib.Dec.{leb}
 use lib.ListN.{length}
@@ -70,3 +70,12 @@ cut-same n x =
 pub size-is : (p : List ℕ) (a d v w : ℕ) → v ≡ d → w ≡ powerTo a (v / 2) → leb (length p * w) 16384 ≡ sizeOk p a d
 unfolding sizeOk nodesOf powerTo
 size-is p a d v w e f = rw (f, e) (cut-same (length p) (a ^ (d / 2)))
+
+-- at most 8 actions, 3 in a word
+pub power-bound : (a n : ℕ) → a ≤ 8 → n ≤ 3 → a ^ n ≤ 512
+power-bound a n h i = le-trans (pow-le-pow-left h n) (pow-le-pow-right (omega arith) i)
+
+-- such a power is not cut off
+pub small-power : (a n : ℕ) → a ^ n ≤ 512 → powerTo a n ≡ a ^ n
+unfolding powerTo
+small-power a n h = rw (le-leb (a ^ n) 65536 (omega arith))

@@ -1,14 +1,12 @@
 -- Demand 2 over bytes, as the customer reads it: for every sheet that solving accepts, the verdict, the masks and the ranks are those of
 -- the game that the sheet means, by Definition 5's strategies. `solve` is proved to give `solveAnswer`, `masksAfter` and `ranksLeft`
 -- (src/solve.rt); the rest is theory. Assumes nothing.
-use Prim.Native.Nat.{ℕ, suc, _+_, _-_, _≤_, _<_}
-use mathlib.Core.Path.{_≡_, sym, _∙_, ap}
+use Prim.Native.Nat.{ℕ, suc, _≤_, _<_}
+use mathlib.Core.Path.{_≡_, sym, _∙_}
 use mathlib.Core.Bool.{true, false}
-use mathlib.Core.List.{List, _++_, List·Memᴰ}
+use mathlib.Core.List.{List, List·Memᴰ}
 use mathlib.Core.Logic.{_↔_}
-use native.Mathlib.Omega.{arith}
-use lib.ListN.{length, getD, drop, List·getD-append}
-use lib.Seq.{getD-append-add, getD-drop}
+use lib.ListN.{length, getD}
 use borrow.Author.Tests.{le-leb}
 use Rattle.theory.specs.Answer.{accepted, onAccepted}
 use Rattle.theory.specs.Game.{Game, Legal, Target, to}
@@ -27,6 +25,7 @@ use Rattle.sheet.specs.Reading.{delayOf, readAnswer}
 use Rattle.sheet.specs.Meant.{gameOf}
 use Rattle.sheet.specs.declared.reading.Layout.{Layout}
 use Rattle.sheet.proofs.Legality.{legal-game}
+use Rattle.solver.proofs.Over.{over-front, over-beyond}
 use Rattle.solver.specs.Solving.{Solved, solveAnswer, solvedDelay, over, masksAfter, ranksLeft}
 
 -- a node that is kept: "of the right side that never falls"
@@ -70,21 +69,6 @@ pub record Demand2 (s : List ℕ) (a : Solved) (mask-buffer rank-buffer : List �
   -- for the asked delay where it wins, else for m
   pub table : Table (gameOf s) (solvedDelay (delayOf s) (a .verdict)) mask-buffer rank-buffer (masksAfter s (accepted a) mask-buffer)
       (ranksLeft s (accepted a) rank-buffer)
-
--- reading a filled buffer
-
-over-front : (entries buffer : List ℕ) (k : ℕ) → k < length entries → getD (over entries buffer) k 0 ≡ getD entries k 0
-unfolding over
-over-front entries buffer k h = List·getD-append entries (drop (length entries) buffer) 0 k h
-
-over-beyond : (entries buffer : List ℕ) (k : ℕ) → length entries ≤ k → getD (over entries buffer) k 0 ≡ getD buffer k 0
-unfolding over
-over-beyond entries buffer k h =
-    let q : k ≡ length entries + (k - length entries) = omega arith in
-    ap (λ i. getD (entries ++ drop (length entries) buffer) i 0) q
-    ∙ getD-append-add entries (drop (length entries) buffer) (k - length entries) 0
-    ∙ getD-drop (length entries) buffer (k - length entries) 0
-    ∙ ap (λ i. getD buffer i 0) (sym q)
 
 module _ (G : Game) (legal : Legal G) (d : ℕ) (mask-buffer rank-buffer : List ℕ) where
   region-wins : WinningSet G d (Kept G d)

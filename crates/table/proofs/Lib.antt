@@ -1,5 +1,4 @@
 -- The theorems over specs/, and laws of them on which the proofs of the functions rest.
-pub mod More
 pub mod Sheets
 pub mod Readable
 pub mod Made

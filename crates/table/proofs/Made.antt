@@ -27,7 +27,7 @@ use Rattle.solver.specs.Solving.{solveAnswer}
 use Rattle.table.specs.Writing.{part}
 use Rattle.table.specs.TableSheet.{tableAnswer}
 use Rattle.table.specs.Making.{headerOf, rankBytes, winningSheet, losingSheet, Made, won, madeOf, outputSize, makeAnswer}
-use Rattle.table.proofs.More.{wins-winning}
+use Rattle.theory.proofs.Waiting.{wins-winning}
 use Rattle.table.proofs.Sheets.{before, length-sheet}
 use Rattle.table.proofs.Readable.{Ranged, tableFor, winning-length, made-readable}
 

@@ -39,7 +39,7 @@ use Rattle.solver.specs.declared.solve.Solution.{Solution}
 use Rattle.solver.specs.declared.solve.Solution.the-variants as solution
 use Rattle.solver.specs.Flags.{flagWith, countIn, flagsCount, flagsAfter}
 use Rattle.table.specs.Making.{headerOf, headerBytes, tableBytes, rankBytes, winningSheet, losingSheet, Made, won, lost, madeOf, outputSize, shortOf, makeAnswer, ifMade, outputAfter, Measured, measureOf, measured, Small, Begins, Ready, Solved}
-use Rattle.table.proofs.More.{power-bound}
+use Rattle.sheet.proofs.SizeLaws.{power-bound}
 use Rattle.table.proofs.Made.{sheet-ranged, winning-fits, losing-fits}
 
 -- checks 8 and 9; n and w are the nodes and first words that the code has counted, x the refusal's number

@@ -23,7 +23,7 @@ use Rattle.sheet.specs.Checks.{nodesOf}
 use Rattle.table.specs.Writing.{Part, part}
 use Rattle.table.specs.TableSheet.{TableSheet, tableLetters, tableLayout, decode, tableNodes, numbersOk, belowAt, bytesBelow, bodiesOk, shapeAnswer, someFlagged, tableAnswer}
 use Rattle.table.specs.Making.{headerOf, tableBytes, winningSheet}
-use Rattle.table.proofs.More.{power-bound}
+use Rattle.sheet.proofs.SizeLaws.{power-bound}
 use Rattle.table.proofs.Sheets.{before, length-sheet, body-is, contents-ok}
 
 -- what checks 2, 3 and 7 leave of a game's numbers and its delay

@@ -6,7 +6,7 @@ use native.Mathlib.Nat.{mul-le-mul}
 use borrow.Author.Needs.{needs}
 use Rattle.theory.specs.Strategy.{initialLength}
 use Rattle.sheet.specs.Checks.{powerTo, nodesOf}
-use Rattle.table.proofs.More.{power-bound, small-power}
+use Rattle.sheet.proofs.SizeLaws.{power-bound, small-power}
 
 -- v is the delay as a number, w a power
 module _ (a d v w : ℕ) (few : a ≤ 8) (short : d ≤ 6) (ev : v ≡ d) where

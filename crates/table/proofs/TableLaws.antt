@@ -26,7 +26,7 @@ use Rattle.table.specs.TableSheet.{TableSheet, tableLetters, tableLayout
 use Rattle.table.specs.declared.reading.TableLayout.{TableLayout}
 use Rattle.table.specs.declared.reading.TableReading.{TableReading}
 use Rattle.table.specs.declared.reading.TableReading.the-variants.{Accepted, Refused}
-use Rattle.table.proofs.More.{small-power}
+use Rattle.sheet.proofs.SizeLaws.{small-power}
 
 -- the layout
 

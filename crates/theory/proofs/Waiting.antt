@@ -213,3 +213,12 @@ module _ (G : Game) (legal : Legal G) where
     where
       losing-not-wins : {n : ℕ} → losing n ≡ wins → ⊥
       losing-not-wins e = let z : _≡_ {A = ℕ} 0 1 = cc in omega arith
+
+-- and only where the asked delay passes the test
+pub wins-winning : (G : Game) (d : ℕ) → answer G d ≡ wins → winning G d ≡ true
+unfolding answer answerBy
+wins-winning G d e =
+    ⊎-elim
+    (λ (w : winning G d ≡ true). w)
+    (λ (l : winning G d ≡ false). let z : _≡_ {A = ℕ} 0 1 = cc (rw l at e) in absurd (omega arith))
+    (bool (winning G d))
