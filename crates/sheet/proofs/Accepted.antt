@@ -1,16 +1,15 @@
 -- What an accepted game sheet says: each check passed, its numbers are in their ranges, and the places that a reading carries are
 -- those of the bodies. Assumes nothing.
 use Prim.Native.Nat.{ℕ, zero, suc, _+_, _-_, _*_, _/_, _%_, _≤_, _<_}
-use mathlib.Core.Path.{_≡_, refl, sym, _∙_, ap}
-use mathlib.Core.Bool.{Bool, true, false}
+use mathlib.Core.Path.{_≡_, refl, sym}
+use mathlib.Core.Bool.{true}
 use mathlib.Core.List.{List}
 use native.Mathlib.Omega.{arith}
-use lib.Dec.{eqb, leb, lit<}
-use lib.ListN.{length, getD, take, drop, length-drop}
+use lib.Dec.{lit<}
+use lib.ListN.{length, drop, length-drop}
 use lib.Seq.{length-take-le}
-use borrow.Author.Tests.{leb-true, eqb-true, ltb-true}
-use Rattle.theory.specs.Fold.{both, allBelow}
-use Rattle.theory.specs.Answer.{Answer, refused, accepted, check}
+use borrow.Author.Tests.{leb-true, eqb-true}
+use Rattle.theory.specs.Answer.{accepted}
 use Rattle.theory.specs.Delay.{arena, words}
 use Rattle.theory.proofs.Fold.{both-left, both-right, all-at}
 use Rattle.theory.proofs.Answer.{check-accepted}
@@ -77,17 +76,18 @@ module _ (s : List ℕ) (l : Layout) (e : readAnswer s ≡ accepted l) where
       let c₄ = check-accepted _ _ _ (c₃ .1) in
       let c₅ = check-accepted _ _ _ (c₄ .1) in
       let c₆ = check-accepted _ _ _ (c₅ .1) in
-      let c₇ = check-accepted _ _ _ (c₆ .1) in
-      (record {
-        contents = c₁ .0;
-        positions = c₂ .0;
-        header = c₃ .0;
-        targets = c₄ .0;
-        moves = c₅ .0;
-        leave = c₆ .0;
-        size = c₇ .0;
-      },
-      same (c₇ .1))
+      let c₇ = check-accepted _ _ _ (c₆ .1) in (
+        record {
+          contents = c₁ .0;
+          positions = c₂ .0;
+          header = c₃ .0;
+          targets = c₄ .0;
+          moves = c₅ .0;
+          leave = c₆ .0;
+          size = c₇ .0;
+        },
+        same (c₇ .1),
+      )
     where
       same : accepted (layoutOf s) ≡ accepted l → l ≡ layoutOf s
       same q = cc

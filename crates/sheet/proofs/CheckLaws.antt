@@ -1,16 +1,16 @@
 -- Checks 3 to 7, as the code of src/lines.rt, size.rt and reading.rt finds them. Assumes nothing.
-use Prim.Native.Nat.{ℕ, zero, suc, _+_, _-_, _*_, _/_, _%_, _^_, _≤_, _<_}
+use Prim.Native.Nat.{ℕ, _+_, _-_, _*_, _/_, _%_, _≤_, _<_}
 use mathlib.Core.Path.{_≡_, refl, sym, _∙_, ap}
-use mathlib.Core.Bool.{Bool, true, false, not, cond}
+use mathlib.Core.Bool.{Bool, true, false, not}
 use mathlib.Core.List.{List}
 use native.Mathlib.Omega.{arith}
 use native.Mathlib.Nat.{mul-le-mul-left, mul-lt-mul-of-pos-left}
-use lib.Dec.{eqb, leb, ltb}
+use lib.Dec.{ltb}
 use lib.ListN.{length, getD}
 use borrow.Author.Needs.{needs}
 use borrow.Author.Tests.{le-leb, lt-leb, lt-ltb, le-ltb, eq-eqb, ne-eqb}
-use Rattle.theory.specs.Fold.{both, either, allBelow, anyBelow}
-use Rattle.theory.proofs.Fold.{both-true, both-false, either-left, either-right, all-none, all-done, any-none, any-holds, any-again, any-done}
+use Rattle.theory.specs.Fold.{allBelow, anyBelow}
+use Rattle.theory.proofs.Fold.{both-true, both-false, either-left, all-none, all-done, any-none, any-holds, any-again, any-done}
 use Rattle.sheet.proofs.More.{both-none, both-second, either-second, failed, passed, all-next, all-stopped}
 use Rattle.sheet.specs.Kinds.{controllerAt, environmentAt}
 use Rattle.sheet.specs.Checks.{headerOk, keyAt, risesAt, targetOk, targetsOk, moveOk, movesOk, beginsAt, hasLine, leavesAt, allLeave}

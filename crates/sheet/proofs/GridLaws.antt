@@ -1,7 +1,7 @@
 -- The grid of targets: filling it line by line, as the code of src/grid.rt does. Assumes nothing.
-use Prim.Native.Nat.{ℕ, zero, suc, _+_, _*_, _/_, _≤_, _<_}
+use Prim.Native.Nat.{ℕ, suc, _+_, _*_, _/_, _≤_, _<_}
 use mathlib.Core.Path.{_≡_, refl, sym, _∙_, ap}
-use mathlib.Core.Bool.{Bool, true, false, cond}
+use mathlib.Core.Bool.{true, false, cond}
 use mathlib.Core.Logic.{_⊎_, inl, inr, ⊎-elim}
 use mathlib.Core.List.{List, []}
 use native.Mathlib.Omega.{arith}
@@ -10,8 +10,8 @@ use lib.Dec.{eqb}
 use lib.ListN.{length, getD, set, replicate, length-set, length-replicate, getD-replicate}
 use lib.Seq.{getD-set-same, getD-set-other, ext-getD}
 use borrow.Author.Tests.{eq-eqb, ne-eqb, eqb-true, eqb-false}
-use Rattle.theory.specs.Fold.{both, tabulate}
-use Rattle.theory.specs.Game.{Target, absent, to}
+use Rattle.theory.specs.Fold.{tabulate}
+use Rattle.theory.specs.Game.{to}
 use Rattle.theory.proofs.Fold.{bool, both-true, both-false, length-tabulate, getD-tabulate, tabulate-same}
 use Rattle.sheet.proofs.More.{both-none}
 use Rattle.sheet.specs.Meant.{isLine, targetIn, markOf, rowOf, gridAfter, gridOf}

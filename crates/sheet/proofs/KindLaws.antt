@@ -1,14 +1,12 @@
 -- The kinds of positions and check 2, as the code of src/kinds.rt finds them. Assumes nothing.
 use Prim.Native.Nat.{ℕ, _+_, _≤_, _<_}
-use mathlib.Core.Path.{_≡_, refl, sym, _∙_, ap}
-use mathlib.Core.Bool.{Bool, true, false, not, cond}
+use mathlib.Core.Path.{_≡_, sym, _∙_, ap}
+use mathlib.Core.Bool.{Bool, true, false, not}
 use mathlib.Core.List.{List}
-use native.Mathlib.Omega.{arith}
-use lib.Dec.{eqb, leb, ltb}
 use lib.ListN.{length, getD}
 use borrow.Author.Needs.{needs}
-use borrow.Author.Tests.{le-leb, lt-leb, lt-ltb, le-ltb, eq-eqb, ne-eqb}
-use Rattle.theory.specs.Fold.{both, allBelow}
+use borrow.Author.Tests.{le-leb, lt-leb, lt-ltb, le-ltb, ne-eqb}
+use Rattle.theory.specs.Fold.{allBelow}
 use Rattle.theory.proofs.Fold.{both-true, both-false, all-none, all-done}
 use Rattle.sheet.proofs.More.{both-none, all-next, all-stopped}
 use Rattle.sheet.specs.Kinds.{kindOf, kindAt, isKnown, isController, isEnvironment, isSafe, knownAt, controllerAt, environmentAt, safeAt}
@@ -85,9 +83,19 @@ module _ (p : List ℕ) (q : ℕ) where
   unfolding knownAt isKnown
   known-none k e f = ap isKnown (sym f ∙ e)
 
-pub ruleset kinds =
-    (needs, kind-none, kind-some, controller-known, controller-none, environment-known, environment-none, safe-known, safe-none,
-    known-known, known-none)
+pub ruleset kinds = (
+  needs,
+  kind-none,
+  kind-some,
+  controller-known,
+  controller-none,
+  environment-known,
+  environment-none,
+  safe-known,
+  safe-none,
+  known-known,
+  known-none,
+)
 
 -- check 2
 

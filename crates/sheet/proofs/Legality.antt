@@ -1,23 +1,24 @@
 -- An accepted game sheet means a legal game (Definition 1), and its targets can be read off the grid. Assumes nothing.
-use Prim.Native.Nat.{ℕ, zero, suc, _+_, _*_, _/_, _≤_, _<_}
+use Prim.Native.Nat.{ℕ, zero, suc, _+_, _-_, _*_, _/_, _≤_, _<_}
 use mathlib.Core.Path.{_≡_, refl, sym, _∙_, ap}
-use mathlib.Core.Bool.{Bool, true, false, not, cond}
+use mathlib.Core.Bool.{true, false, cond}
 use mathlib.Core.Logic.{_⊎_, inl, inr, ⊎-elim}
-use mathlib.Core.List.{List, [], _∷_, List·Memᴰ, List·Memᴰ·head, List·Memᴰ·tail, List·Memᴰ·cases-cons, List·Memᴰ·not-nil}
+use mathlib.Core.List.{List, [], _∷_, List·Memᴰ, List·Memᴰ·head, List·Memᴰ·cases-cons, List·Memᴰ·not-nil}
 use native.Mathlib.Omega.{arith}
 use lib.Dec.{eqb, ltb}
 use lib.ListN.{length, getD}
 use borrow.Author.Tests.{ltb-true, lt-ltb, le-ltb, eqb-true, eq-eqb, ne-eqb}
-use Rattle.theory.specs.Fold.{both, allBelow}
-use Rattle.theory.specs.Answer.{Answer, accepted}
-use Rattle.theory.specs.Game.{Target, absent, to, Game, Legal, LegalTarget, LegalMove}
+use Rattle.theory.specs.Fold.{both}
+use Rattle.theory.specs.Answer.{accepted}
+use Rattle.theory.specs.Game.{Target, absent, to, Legal, LegalTarget, LegalMove}
 use Rattle.theory.proofs.Fold.{bool, not-both, both-true, both-left, both-right, all-at, any-some, below-cases, below?}
-use Rattle.sheet.specs.Kinds.{kindAt, isKnown, isController, isEnvironment, knownAt, controllerAt, environmentAt}
-use Rattle.sheet.specs.Checks.{positionsOk, targetOk, targetsOk, moveOk, movesOk, risesAt, beginsAt, hasLine, leavesAt, allLeave}
+use Rattle.sheet.specs.Kinds.{kindAt, isController, isEnvironment, controllerAt, environmentAt}
+use Rattle.sheet.specs.Checks.{keyAt, targetOk, targetsOk, moveOk, movesOk, risesAt, beginsAt, hasLine, leavesAt, allLeave}
 use Rattle.sheet.specs.Reading.{positionsBody, targetsBody, movesBody, startOf, actionCount, readAnswer}
 use Rattle.sheet.specs.Meant.{isLine, targetIn, targetOf, movesIn, movesOf, gameOf, markOf, unmark, gridOf, targetAt}
+use Rattle.sheet.proofs.More.{either-second}
 use Rattle.sheet.proofs.GridLaws.{target-next, cell-at, row-at}
-use Rattle.sheet.proofs.Accepted.{Read, Ranges, read-is, ranges}
+use Rattle.sheet.proofs.Accepted.{Read, read-is, ranges}
 use Rattle.sheet.specs.declared.kinds.Kind.{Kind}
 use Rattle.sheet.specs.declared.kinds.Kind.the-variants.{Position, Invalid}
 use Rattle.sheet.specs.declared.reading.Layout.{Layout}
@@ -230,7 +231,7 @@ module _ (s : List ℕ) (r : Read s) where
       let f = begun 3 (targetsBody s) (length (targetsBody s) / 3) p e in
       let x = getD (targetsBody s) (3 * f .0 + 1) 0 in
       let line = line-target (targetsBody s) p x (length (targetsBody s) / 3) (f .0) (f .1)
-        (both-true _ _ (eq-eqb _ _ (f .2)) (eq-eqb x x refl)) in
+      (both-true _ _ (eq-eqb _ _ (f .2)) (eq-eqb x x refl)) in
       (x, line .0, line .1)
 
   live-environment : (p : ℕ) → hasLine 2 (movesBody s) (length (movesBody s) / 2) p ≡ true
@@ -303,6 +304,39 @@ module _ (s : List ℕ) (r : Read s) where
       rw t (inside p x (ltb-true _ _ (both-left _ _ t)) (ltb-true _ _ (both-right _ _ t))))
       (λ (f : both (ltb p 256) (ltb x 8) ≡ false). rw f (outside p x f))
       (bool (both (ltb p 256) (ltb x 8)))
+
+-- the lines of the C and U bodies, for those who walk them
+
+module _ (w : ℕ) (b : List ℕ) where
+  pub rises-next : (k : ℕ) → risesAt w b (suc k) ≡ true → keyAt b (w * k) < keyAt b (w * suc k)
+  unfolding risesAt
+  rises-next k e =
+      let same : suc k - 1 ≡ k = omega arith in
+      ltb-true _ _ (rw (either-second (eqb (suc k) 0) _ (ne-eqb (suc k) 0 (λ z. omega arith)), same) at e)
+
+module _ (s : List ℕ) (r : Read s) where
+  -- the keys of the U body rise from each line to the next
+  pub moves-rise : (k : ℕ) → suc k < length (movesBody s) / 2 → keyAt (movesBody s) (2 * k) < keyAt (movesBody s) (2 * suc k)
+  moves-rise k h =
+      rises-next 2 (movesBody s) k (environment-line (positionsBody s) (movesBody s) (r .moves) (suc k) h .rises)
+
+  pub targets-rise : (k : ℕ) → suc k < length (targetsBody s) / 3
+      → keyAt (targetsBody s) (3 * k) < keyAt (targetsBody s) (3 * suc k)
+  targets-rise k h =
+      rises-next 3 (targetsBody s) k
+      (target-line (positionsBody s) (actionCount s) (targetsBody s) (r .targets) (suc k) h .rises)
+
+  -- so the positions that its lines begin with never fall
+  pub moves-ordered : (k : ℕ) → suc k < length (movesBody s) / 2 → getD (movesBody s) (2 * k) 0 ≤ getD (movesBody s) (2 * suc k) 0
+  unfolding keyAt
+  moves-ordered k h =
+      let line = environment-line (positionsBody s) (movesBody s) (r .moves) (suc k) h in
+      omega (
+        arith,
+        moves-rise k h,
+        ranges s r .few-positions,
+        controller-inside (positionsBody s) (getD (movesBody s) (2 * suc k + 1) 0) (line .target),
+      )
 
 pub legal-game : (s : List ℕ) (l : Layout) → readAnswer s ≡ accepted l → Legal (gameOf s)
 legal-game s l e = legal s (read-is s l e .0)

@@ -8,3 +8,4 @@ pub mod ReadLaws
 pub mod GridLaws
 pub mod Accepted
 pub mod Legality
+pub mod Cases

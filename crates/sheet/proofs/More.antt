@@ -1,14 +1,14 @@
 -- Laws on tests, folds and lists that are no part of sheets. Assumes nothing.
-use Prim.Native.Nat.{ℕ, _+_, _-_, _≤_, _<_}
-use mathlib.Core.Path.{_≡_, refl, sym, _∙_}
+use Prim.Native.Nat.{ℕ, _+_, _-_, _<_}
+use mathlib.Core.Path.{_≡_, sym, _∙_}
 use mathlib.Core.Bool.{Bool, true, false, not}
 use mathlib.Core.List.{List}
 use native.Mathlib.Nat.{le-refl}
 use lib.ListN.{length, take, drop, length-drop}
 use lib.Seq.{take-all}
 use borrow.Author.Tests.{not-true, not-false}
-use Rattle.theory.specs.Fold.{both, either, allBelow, anyBelow}
-use Rattle.theory.proofs.Fold.{all-fails, all-again, any-holds}
+use Rattle.theory.specs.Fold.{both, either, allBelow}
+use Rattle.theory.proofs.Fold.{all-fails, all-again}
 
 pub both-none : (a b : Bool) → a ≡ false → both a b ≡ false
 unfolding both

@@ -1,7 +1,7 @@
 -- The reader's answers, as the code of src/reading.rt and refusal.rt finds them: the checks before have passed, and one fails.
 -- Assumes nothing.
 use Prim.Native.Nat.{ℕ, _≤_}
-use mathlib.Core.Path.{_≡_, refl, sym, _∙_, ap}
+use mathlib.Core.Path.{_≡_, sym, _∙_, ap}
 use mathlib.Core.Bool.{Bool, true, false, not}
 use mathlib.Core.List.{List}
 use lib.ListN.{length, getD}
@@ -19,7 +19,7 @@ use Rattle.sheet.specs.declared.form.Place.{Place}
 use Rattle.sheet.specs.declared.refusal.Refusal.{Refusal}
 use Rattle.sheet.specs.declared.reading.Layout.{Layout}
 use Rattle.sheet.specs.declared.reading.Reading.{Reading}
-use Rattle.sheet.specs.declared.reading.Reading.the-variants.{Accepted, Refused}
+use Rattle.sheet.specs.declared.reading.Reading.the-variants.{Refused}
 
 pub number-told : (r x : Refusal) (n : ℕ) → r ≡ x → n ≡ numberOf x → n ≡ numberOf r
 number-told r x n e f = f ∙ ap numberOf (sym e)

@@ -6,3 +6,4 @@ pub mod Kinds
 pub mod Checks
 pub mod Reading
 pub mod Meant
+pub mod Cases

@@ -15,12 +15,14 @@ pub struct Place {
     pub size: usize,
 }
 
+// A byte as a number to count with.
 pub fn wide(x: u8) -> usize
     ensures { λ r. ⌜ (r ≡ x) × (x < 256) ⌝ }
 {
     x as usize
 }
 
+// The byte at an index.
 pub fn byte(s: &[u8], i: usize) -> u8
     ensures { λ r. ⌜ r ≡ getD (now (s .entry)) i 0 ⌝ }
 {
@@ -78,6 +80,7 @@ pub fn placed(s: &[u8], k: usize) -> Place
     }
 }
 
+// The part of a sheet at a place: how other crates come to the bodies that a reading's layout names.
 pub fn part(s: &[u8], place: Place) -> &[u8]
     ensures { λ r. ⌜ now r ≡ partAt (now (s .entry)) place ⌝ }
 {
@@ -93,6 +96,7 @@ pub fn part(s: &[u8], place: Place) -> &[u8]
     &s[at..end]
 }
 
+// The body of entry k.
 pub fn body(s: &[u8], k: usize) -> &[u8]
     ensures { λ r. ⌜ now r ≡ bodyOf width (now (s .entry)) k ⌝ }
 {

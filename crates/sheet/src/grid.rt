@@ -1,25 +1,24 @@
 // The grid of targets that the C body means: a row for each position, eight targets a row, 256 where there is none.
 use crate::form::wide;
+use crate::limits::ABSENT;
+use crate::limits::ROW;
+use crate::limits::ROWS;
 ghost use mathlib.Core.Path.{_≡_};
 ghost use Rattle.sheet.specs.Meant.{gridOf};
 
-const MOST_ACTIONS: usize = 8;
-
-const ABSENT: u16 = 256;
-
 // A line with an action that no row has is left out, so the function is total.
-pub fn grid_of(c: &[u8]) -> [[u16; 8]; 256]
+pub fn grid_of(c: &[u8]) -> [[u16; ROW]; ROWS]
     ensures { λ r. ⌜ r ≡ gridOf (now (c .entry)) ⌝ }
 {
     let n = c.len() / 3;
-    let row = [ABSENT; 8];
-    let mut grid = [row; 256];
+    let row = [ABSENT; ROW];
+    let mut grid = [row; ROWS];
     let mut k: usize = 0;
     while k < n {
         let from = wide(c[3 * k]);
         let action = wide(c[3 * k + 1]);
         let to = c[3 * k + 2] as u16;
-        if action < MOST_ACTIONS {
+        if action < ROW {
             grid[from][action] = to;
         }
         k += 1;

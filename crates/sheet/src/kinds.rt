@@ -1,15 +1,15 @@
 // What the byte of a position in the P body says. Every function is total: a position that does not exist is of no kind.
+use crate::limits::MOST_POSITIONS;
 ghost use mathlib.Core.Path.{_≡_};
 ghost use Rattle.sheet.specs.Kinds.{kindOf, kindAt, knownAt, controllerAt, environmentAt, safeAt};
 ghost use Rattle.sheet.specs.Checks.{positionsOk};
-
-const MOST_POSITIONS: usize = 256;
 
 pub enum Kind {
     Position { controller: bool, safe: bool },
     Invalid,
 }
 
+// Side and safety by a P byte; there is none above 3.
 pub fn kind_of(b: u8) -> Kind
     ensures { λ r. ⌜ r ≡ kindOf b ⌝ }
 {

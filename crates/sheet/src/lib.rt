@@ -1,4 +1,5 @@
 // Sheets: the house form, reading a game sheet (document 01, refusals 1 to 7), and the grid of targets that it means.
+pub mod limits; // document 01's numbers
 pub mod refusal; // the project's refusals and their numbers
 pub mod form; // contents and bodies of any sheet
 pub mod kinds; // what the byte of a position says

@@ -2,13 +2,13 @@
 use crate::form::wide;
 use crate::kinds::controller_at;
 use crate::kinds::environment_at;
+use crate::limits::MOST_MOVES;
 ghost use mathlib.Core.Path.{_≡_};
 ghost use Prim.Native.Nat.{_+_, _*_, _≤_, _<_};
 ghost use lib.ListN.{length};
 ghost use Rattle.sheet.specs.Checks.{keyAt, risesAt, targetOk, targetsOk, moveOk, movesOk, hasLine, leavesAt, allLeave};
 
-const MOST_MOVES: usize = 4096;
-
+// The first two bytes of a line as one number, by which lines are ordered.
 fn key(b: &[u8], i: usize) -> usize
     requires { ⌜ i + 1 < length (now b) ⌝ }
     ensures { λ r. ⌜ r ≡ keyAt (now (b .entry)) i ⌝ }
@@ -16,6 +16,7 @@ fn key(b: &[u8], i: usize) -> usize
     wide(b[i]) * 256 + wide(b[i + 1])
 }
 
+// Has line k a larger key than the one before it?
 fn rises(width: usize, b: &[u8], k: usize) -> bool
     requires { ⌜ width * k + 1 < length (now b) ⌝ }
     ensures { λ r. ⌜ r ≡ risesAt width (now (b .entry)) k ⌝ }
@@ -28,6 +29,7 @@ fn rises(width: usize, b: &[u8], k: usize) -> bool
     before < here
 }
 
+// Is line k of the C body right?
 fn target_ok(p: &[u8], actions: u8, c: &[u8], k: usize) -> bool
     requires { ⌜ 3 * k + 2 < length (now c) ⌝ }
     ensures { λ r. ⌜ r ≡ targetOk (now (p .entry)) actions (now (c .entry)) k ⌝ }
@@ -64,6 +66,7 @@ pub(crate) fn targets_ok(p: &[u8], actions: u8, c: &[u8]) -> bool
     true
 }
 
+// Is line k of the U body right?
 fn move_ok(p: &[u8], u: &[u8], k: usize) -> bool
     requires { ⌜ 2 * k + 1 < length (now u) ⌝ }
     ensures { λ r. ⌜ r ≡ moveOk (now (p .entry)) (now (u .entry)) k ⌝ }
@@ -99,6 +102,7 @@ pub(crate) fn moves_ok(p: &[u8], u: &[u8]) -> bool
     true
 }
 
+// Does one of the first n lines begin with q?
 fn has_line(width: usize, b: &[u8], n: usize, q: usize) -> bool
     requires { ⌜ (1 ≤ width) × (width * n ≤ length (now b)) ⌝ }
     ensures { λ r. ⌜ r ≡ hasLine width (now (b .entry)) n q ⌝ }
@@ -114,6 +118,7 @@ fn has_line(width: usize, b: &[u8], n: usize, q: usize) -> bool
     false
 }
 
+// Has position q a move of its own kind?
 fn leaves_at(p: &[u8], c: &[u8], u: &[u8], q: usize) -> bool
     ensures { λ r. ⌜ r ≡ leavesAt (now (p .entry)) (now (c .entry)) (now (u .entry)) q ⌝ }
 {

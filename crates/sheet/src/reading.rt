@@ -7,6 +7,8 @@ use crate::form::placed;
 use crate::form::wide;
 use crate::kinds::controller_at;
 use crate::kinds::positions_ok;
+use crate::limits::MOST_ACTIONS;
+use crate::limits::MOST_DELAY;
 use crate::lines::all_leave;
 use crate::lines::moves_ok;
 use crate::lines::targets_ok;
@@ -21,10 +23,6 @@ ghost use Rattle.sheet.specs.Limits.{mostPositions};
 ghost use Rattle.sheet.specs.Checks.{headerOk, targetsOk, movesOk, allLeave, sizeOk};
 ghost use Rattle.sheet.specs.Reading.{layoutOf, readAnswer, meaning, refusalNumber};
 
-const MOST_ACTIONS: u8 = 8;
-
-const MOST_DELAY: u8 = 6;
-
 // What an accepted reading carries: the start bytes and the places of the bodies.
 pub struct Layout {
     pub start: u8,
@@ -36,6 +34,7 @@ pub struct Layout {
     pub moves: Place,
 }
 
+// The answer to every list of bytes.
 pub enum Reading {
     Accepted(Layout),
     Refused(Refusal),
@@ -62,6 +61,7 @@ fn header_ok(p: &[u8], h: &[u8]) -> bool
     controller_at(p, wide(h[0]))
 }
 
+// The layout that the contents and the S body give.
 fn layout_at(s: &[u8]) -> Layout
     ensures { λ r. ⌜ r ≡ layoutOf (now (s .entry)) ⌝ }
 {
@@ -104,6 +104,7 @@ fn check_lines(l: Layout, p: &[u8], c: &[u8], u: &[u8]) -> Reading
     Reading::Accepted(l)
 }
 
+// Reading a game sheet: the seven checks in the order written.
 pub fn read(sheet: &[u8]) -> Reading
     ensures { λ r. ⌜ meaning r ≡ readAnswer (now (sheet .entry)) ⌝ }
 {

@@ -25,6 +25,7 @@ pub enum Refusal {
     State,
 }
 
+// Document 01's number of a refusal.
 pub fn number(r: Refusal) -> u8
     ensures { λ n. ⌜ n ≡ numberOf r ⌝ }
 {

@@ -1,14 +1,12 @@
 // How many words and nodes there are: check 7.
 use crate::form::wide;
+use crate::limits::MOST_NODES;
+use crate::limits::MOST_POWER;
 ghost use mathlib.Core.Path.{_≡_};
 ghost use Prim.Native.Nat.{_≤_};
 ghost use lib.ListN.{length};
 ghost use Rattle.sheet.specs.Limits.{mostPositions, mostPower};
 ghost use Rattle.sheet.specs.Checks.{powerTo, sizeOk};
-
-const MOST_NODES: usize = 16384;
-
-const MOST_POWER: usize = 65536;
 
 // A power, or 65,536 where it is more: then no product wraps, for any base and exponent.
 pub fn power(base: u8, exponent: usize) -> usize

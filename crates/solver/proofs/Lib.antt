@@ -1,1 +1,15 @@
 -- Laws of the definitions of specs/, on which the proofs of the functions rest.
+pub mod More
+pub mod Filling
+pub mod WalkLaws
+pub mod LevelLaws
+pub mod GoodLaws
+pub mod MaskLaws
+pub mod MoveLaws
+pub mod RoundLaws
+pub mod SearchLaws
+pub mod Bodies
+pub mod SolveLaws
+pub mod FlagLaws
+pub mod Demand2
+pub mod Cases

@@ -3,3 +3,5 @@ pub mod View
 pub mod Walks
 pub mod Strikes
 pub mod Solving
+pub mod Flags
+pub mod Cases

@@ -5,7 +5,7 @@ use mathlib.Core.Path.{_≡_}
 use mathlib.Core.Bool.{Bool, true, false}
 use mathlib.Core.List.{List, _++_}
 use lib.Dec.{leb}
-use lib.ListN.{length, getD, drop}
+use lib.ListN.{length, drop}
 use Rattle.theory.specs.Fold.{both}
 use Rattle.theory.specs.Answer.{Answer, refused, accepted, check, onAccepted}
 use Rattle.theory.specs.Game.{Game, Legal}
@@ -61,7 +61,7 @@ meaning (Winning l) = accepted (record { verdict = wins; layout = l })
 meaning (Losing m l) = accepted (record { verdict = losing m; layout = l })
 meaning (Refused n) = refused n
 
-abbrev pub verdictBy : Bool → ℕ → Verdict
+unfoldable pub verdictBy : Bool → ℕ → Verdict
 verdictBy true m = wins
 verdictBy false m = losing m
 

@@ -1,6 +1,5 @@
 -- One round over the solver's arrays, and what good first words ask of them. Assumes nothing.
 use Prim.Native.Nat.{ℕ, _+_, _*_, _/_, _%_, _≤_}
-use mathlib.Core.Path.{_≡_}
 use mathlib.Core.Bool.{Bool, true, false, not, cond}
 use mathlib.Core.List.{List}
 use lib.Dec.{eqb}
@@ -9,12 +8,12 @@ use Rattle.theory.specs.Fold.{both, allBelow, tabulate}
 use Rattle.theory.specs.Rounds.{Arena, spoiltBy, fell, falls, rankIn}
 use Rattle.theory.specs.Delay.{keptAt}
 use Rattle.sheet.specs.Kinds.{controllerAt, safeAt}
-use Rattle.sheet.specs.Meant.{targetAt}
 use Rattle.solver.specs.declared.level.Level.{Level}
+use Rattle.solver.specs.View.{cellAt}
 use Rattle.solver.specs.Walks.{fallenBy}
 
 -- "For even d the position is own, for odd d yard"
-abbrev pub rightAt : Bool → List ℕ → ℕ → Bool
+unfoldable pub rightAt : Bool → List ℕ → ℕ → Bool
 rightAt true p q = not (controllerAt p q)
 rightAt false p q = controllerAt p q
 
@@ -42,17 +41,17 @@ unfoldable pub keptIn : List ℕ → Level → List ℕ → ℕ → Bool
 keptIn p l ranks k = both (rightAt (l .odd) p (k / l .power)) (not (fell ranks k))
 
 -- the good first words, by parity
-abbrev pub goodOn : Bool → List ℕ → List (List ℕ) → Level → List ℕ → ℕ → Bool
+unfoldable pub goodOn : Bool → List ℕ → List (List ℕ) → Level → List ℕ → ℕ → Bool
 goodOn true p g l ranks v =
     both (safeAt p (l .start))
-    (keptAt (keptIn p l ranks) (l .power) (v % l .power) (targetAt g (l .start) (v / l .power)))
+    (keptAt (keptIn p l ranks) (l .power) (v % l .power) (cellAt g (l .start) (v / l .power)))
 goodOn false p g l ranks v = keptIn p l ranks (l .start * l .power + v)
 
 unfoldable pub goodIn : List ℕ → List (List ℕ) → Level → List ℕ → ℕ → Bool
 goodIn p g l ranks v = goodOn (l .odd) p g l ranks v
 
 -- the number of first words: odd delays have one action more
-abbrev pub wordsOn : Bool → Level → ℕ
+unfoldable pub wordsOn : Bool → Level → ℕ
 wordsOn true l = l .power * l .actions
 wordsOn false l = l .power
 

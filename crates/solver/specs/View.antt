@@ -1,20 +1,24 @@
 -- What the solver's arrays hold, as a game, and its arena at the numbers of one delay. p is the P body, g the grid of targets,
 -- u the U body, f the index of first lines. Assumes nothing.
-use Prim.Native.Nat.{ℕ, zero, suc, _+_, _-_, _*_, _/_, _%_, _^_, _≤_, _<_}
+use Prim.Native.Nat.{ℕ, suc, _+_, _-_, _*_, _/_, _%_, _^_, _≤_, _<_}
 use mathlib.Core.Path.{_≡_}
-use mathlib.Core.Bool.{Bool, true, false, not}
-use mathlib.Core.List.{List}
+use mathlib.Core.Bool.{Bool, cond}
+use mathlib.Core.List.{List, []}
 use lib.Dec.{ltb}
 use lib.ListN.{length, getD}
-use Rattle.theory.specs.Fold.{firstNot, tabulate}
-use Rattle.theory.specs.Game.{Game}
+use Rattle.theory.specs.Fold.{both, firstNot, tabulate}
+use Rattle.theory.specs.Game.{Target, absent, Game}
 use Rattle.theory.specs.Rounds.{Arena}
 use Rattle.theory.specs.Delay.{odd, onRight, outcomes}
-use Rattle.sheet.specs.Limits.{mostPositions, mostActions, mostDelay, mostNodes}
+use Rattle.sheet.specs.Limits.{mostPositions, mostActions, mostNodes}
 use Rattle.sheet.specs.Checks.{nodesOf}
 use Rattle.sheet.specs.Kinds.{controllerAt, safeAt}
-use Rattle.sheet.specs.Meant.{targetAt}
+use Rattle.sheet.specs.Meant.{unmark}
 use Rattle.solver.specs.declared.level.Level.{Level}
+
+-- what the grid says of position q and action x. Like the code it reads an entry past the end as 0, so it needs no row's length
+unfoldable pub cellAt : List (List ℕ) → ℕ → ℕ → Target
+cellAt g q x = cond (both (ltb q mostPositions) (ltb x mostActions)) (unmark (getD (getD g q []) x 0)) absent
 
 -- line i of the U body: "from, to"
 unfoldable pub toAt : List ℕ → ℕ → ℕ
@@ -43,7 +47,7 @@ viewOf p g u f start actions =
       actions = actions;
       controller = controllerAt p;
       safe = safeAt p;
-      target = targetAt g;
+      target = cellAt g;
       moves = λ q. tosBetween u (getD f q 0) (getD f (suc q) 0);
     }
 

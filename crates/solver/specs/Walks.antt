@@ -1,5 +1,5 @@
 -- What the walk over a node's actions and moves goes through, and when it spoils. Assumes nothing.
-use Prim.Native.Nat.{ℕ, suc, _+_, _-_, _*_, _/_, _%_, _<_}
+use Prim.Native.Nat.{ℕ, suc, _+_, _*_, _/_, _%_, _<_}
 use mathlib.Core.Path.{_≡_}
 use mathlib.Core.Bool.{Bool, true, false, not, cond}
 use mathlib.Core.List.{List}
@@ -10,9 +10,9 @@ use Rattle.theory.specs.Game.{Target, absent, to}
 use Rattle.theory.specs.Rounds.{Arena, spoiltBy, maskBelow}
 use Rattle.theory.specs.Delay.{withWord}
 use Rattle.sheet.specs.Kinds.{safeAt}
-use Rattle.sheet.specs.Meant.{targetAt}
 use Rattle.solver.specs.declared.level.Level.{Level}
 use Rattle.solver.specs.declared.walk.Choice.{Choice}
+use Rattle.solver.specs.View.{cellAt}
 
 -- "fallen in rounds 1 to n". In a list that is half updated too: what falls now has n + 1
 unfoldable pub fallenBy : ℕ → List ℕ → ℕ → Bool
@@ -26,22 +26,22 @@ abbrev pub blockedAt : ℕ → ℕ → Choice
 blockedAt h w = record { blocked = true; action = h; rest = w; first = 0; end = 0 }
 
 -- even delays: h has this target
-abbrev pub movesAfter : List ℕ → List ℕ → ℕ → ℕ → Target → Choice
+unfoldable pub movesAfter : List ℕ → List ℕ → ℕ → ℕ → Target → Choice
 movesAfter p f h w absent = blockedAt h w
 movesAfter p f h w (to q) = cond (safeAt p q) (movesFrom f h w q) (blockedAt h w)
 
 -- by parity (true: odd), at position q
-abbrev pub playedAt : Bool → List ℕ → List (List ℕ) → List ℕ → ℕ → ℕ → ℕ → Choice
+unfoldable pub playedAt : Bool → List ℕ → List (List ℕ) → List ℕ → ℕ → ℕ → ℕ → Choice
 playedAt true p g f q h w = movesFrom f h w q
-playedAt false p g f q h w = movesAfter p f h w (targetAt g q h)
+playedAt false p g f q h w = movesAfter p f h w (cellAt g q h)
 
 -- at position q with the joined word j, whose oldest action is played
 unfoldable pub choiceAt : List ℕ → List (List ℕ) → List ℕ → Level → ℕ → ℕ → Choice
 choiceAt p g f l q j = playedAt (l .odd) p g f q (j / l .power) (j % l .power)
 
 -- the outcome, by parity, of the environment's move to r
-abbrev pub outcomeBy : Bool → List ℕ → List (List ℕ) → ℕ → ℕ → ℕ → ℕ → Target
-outcomeBy true p g m h w r = cond (safeAt p r) (withWord m w (targetAt g r h)) absent
+unfoldable pub outcomeBy : Bool → List ℕ → List (List ℕ) → ℕ → ℕ → ℕ → ℕ → Target
+outcomeBy true p g m h w r = cond (safeAt p r) (withWord m w (cellAt g r h)) absent
 outcomeBy false p g m h w r = to (r * m + w)
 
 unfoldable pub outcomeAt : List ℕ → List (List ℕ) → Level → Choice → ℕ → Target

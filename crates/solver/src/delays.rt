@@ -17,7 +17,7 @@ pub struct Stop {
     pub rounds: u16,
 }
 
-pub fn search(
+pub(crate) fn search(
     p: &[u8],
     grid: &[[u16; 8]; 256],
     u: &[u8],

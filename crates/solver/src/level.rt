@@ -2,7 +2,6 @@
 use sheet::form::wide;
 use sheet::size::power;
 ghost use mathlib.Core.Path.{_≡_};
-ghost use Prim.Native.Nat.{_≤_};
 ghost use Rattle.solver.specs.View.{levelAt, Room};
 
 // power: the number of pending words. A node is a position times power, plus its pending word.
@@ -14,7 +13,7 @@ pub struct Level {
     pub nodes: usize,
 }
 
-pub fn level_at(positions: usize, start: u8, actions: u8, delay: u8) -> Level
+pub(crate) fn level_at(positions: usize, start: u8, actions: u8, delay: u8) -> Level
     requires { ⌜ Room positions actions delay ⌝ }
     ensures { λ r. ⌜ r ≡ levelAt positions start actions delay ⌝ }
 {

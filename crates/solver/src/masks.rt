@@ -57,7 +57,7 @@ fn mask_of(
 }
 
 // Fills the masks. No rank is over n.
-pub fn fill_masks(
+pub(crate) fn fill_masks(
     p: &[u8],
     grid: &[[u16; 8]; 256],
     u: &[u8],

@@ -4,11 +4,10 @@ use crate::walk::doomed;
 use sheet::kinds::controller_at;
 use sheet::kinds::safe_at;
 ghost use mathlib.Core.Path.{_≡_};
-ghost use Prim.Native.Nat.{_≤_, _<_, _/_};
+ghost use Prim.Native.Nat.{_≤_, _<_};
 ghost use lib.ListN.{length};
 ghost use Rattle.theory.specs.Fold.{anyBelow, tabulate};
 ghost use Rattle.theory.specs.Rounds.{finalRanks};
-ghost use Rattle.sheet.specs.Limits.{mostNodes};
 ghost use Rattle.solver.specs.View.{Sized, arenaOf};
 ghost use Rattle.solver.specs.Strikes.{rightAt, firstRank, struckBy, strikes, nextRanks, AtMost};
 
@@ -82,7 +81,7 @@ fn round(
     ranks: &mut [u16],
     n: u16,
 ) -> bool
-    requires { ⌜ (Sized (length (now p)) level) × (length (now ranks) ≡ level .nodes) × (AtMost n (now ranks)) × (1 ≤ n) × (n ≤ mostNodes) ⌝ }
+    requires { ⌜ (Sized (length (now p)) level) × (length (now ranks) ≡ level .nodes) × (AtMost n (now ranks)) × (1 ≤ n) × (n < 65535) ⌝ }
     ensures { λ r. ⌜ (now (ranks .exit) ≡ nextRanks (arenaOf (now (p .entry)) (now (grid .entry)) (now (u .entry)) (now (firsts .entry)) level) n (now (ranks .entry))) × (r ≡ anyBelow (strikes (arenaOf (now (p .entry)) (now (grid .entry)) (now (u .entry)) (now (firsts .entry)) level) n (now (ranks .entry))) (level .nodes)) ⌝ }
 {
     let mut any = false;

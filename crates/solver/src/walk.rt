@@ -1,5 +1,5 @@
 // Which actions are spoilt at a node, and whether all are. What has fallen is given by marks and a number n: a node whose mark
-// is 1 to n counts as fallen. Reads past an end give 0 or absent, so nothing is asked of the arrays.
+// is 1 to n counts as fallen. Nothing is asked of what the arrays hold.
 use crate::level::Level;
 use sheet::form::byte;
 use sheet::form::wide;
@@ -9,8 +9,8 @@ ghost use Prim.Native.Nat.{_≤_, _<_};
 ghost use lib.ListN.{length, getD};
 ghost use Rattle.theory.specs.Fold.{allBelow};
 ghost use Rattle.theory.specs.Rounds.{bad, spoiltBy};
-ghost use Rattle.sheet.specs.Meant.{unmark, targetAt};
-ghost use Rattle.solver.specs.View.{toAt, Sized, arenaOf};
+ghost use Rattle.sheet.specs.Meant.{unmark};
+ghost use Rattle.solver.specs.View.{cellAt, toAt, Sized, arenaOf};
 ghost use Rattle.solver.specs.Walks.{fallenBy, blockedAt, movesFrom, outcomeAt, Chosen};
 
 const ABSENT: usize = 256;
@@ -32,7 +32,7 @@ fn wide_mark(x: u16) -> usize
 }
 
 pub fn target(grid: &[[u16; 8]; 256], q: usize, x: usize) -> usize
-    ensures { λ r. ⌜ (unmark r ≡ targetAt (now (grid .entry)) q x) × (r < 65536) ⌝ }
+    ensures { λ r. ⌜ (unmark r ≡ cellAt (now (grid .entry)) q x) × (r < 65536) ⌝ }
 {
     if 256 <= q {
         return ABSENT;
@@ -44,9 +44,10 @@ pub fn target(grid: &[[u16; 8]; 256], q: usize, x: usize) -> usize
 }
 
 fn line_of(firsts: &[u16; 257], q: usize) -> usize
+    requires { ⌜ q < 257 ⌝ }
     ensures { λ r. ⌜ (r ≡ getD (now (firsts .entry)) q 0) × (r < 65536) ⌝ }
 {
-    if q < 257 { wide_mark(firsts[q]) } else { 0 }
+    wide_mark(firsts[q])
 }
 
 fn fallen(marks: &[u16], n: u16, node: usize) -> bool
@@ -76,7 +77,7 @@ fn blocked(action: usize, rest: usize) -> Choice
 
 // The environment moves from q.
 fn moves_from(firsts: &[u16; 257], action: usize, rest: usize, q: usize) -> Choice
-    requires { ⌜ q < 65536 ⌝ }
+    requires { ⌜ q < 256 ⌝ }
     ensures { λ r. ⌜ (r ≡ movesFrom (now (firsts .entry)) action rest q) × (r .end < 65536) ⌝ }
 {
     Choice {
@@ -98,7 +99,7 @@ fn choose(
     w: usize,
     c: usize,
 ) -> Choice
-    requires { ⌜ (Sized (length (now p)) level) × (q < 65536) × (w < level .power) × (c < level .actions) ⌝ }
+    requires { ⌜ (Sized (length (now p)) level) × (q < 256) × (w < level .power) × (c < level .actions) ⌝ }
     ensures { λ r. ⌜ Chosen (now (p .entry)) (now (grid .entry)) (now (firsts .entry)) level q w c r ⌝ }
 {
     let joined = w * level.actions + c;

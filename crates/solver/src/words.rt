@@ -1,18 +1,24 @@
 // Good first words, once the ranks stand.
 use crate::level::Level;
+use crate::level::level_at;
 use crate::rounds::on_right;
 use crate::walk::target;
+use sheet::form::part;
+use sheet::grid::grid_of;
 use sheet::kinds::safe_at;
+use sheet::reading::Reading;
+use sheet::reading::read;
 ghost use mathlib.Core.Path.{_≡_};
 ghost use Prim.Native.Nat.{_<_};
 ghost use lib.ListN.{length};
-ghost use Rattle.theory.specs.Fold.{anyBelow};
+ghost use Rattle.theory.specs.Fold.{anyBelow, tabulate};
 ghost use Rattle.solver.specs.View.{Sized};
 ghost use Rattle.solver.specs.Strikes.{keptIn, goodIn, firstWords};
+ghost use Rattle.solver.specs.Flags.{flagIn, flagsCount, flagsAfter};
 
 const ABSENT: usize = 256;
 
-pub fn kept(p: &[u8], level: Level, ranks: &[u16], k: usize) -> bool
+pub(crate) fn kept(p: &[u8], level: Level, ranks: &[u16], k: usize) -> bool
     requires { ⌜ Sized (length (now p)) level ⌝ }
     ensures { λ r. ⌜ r ≡ keptIn (now (p .entry)) level (now (ranks .entry)) k ⌝ }
 {
@@ -25,7 +31,7 @@ pub fn kept(p: &[u8], level: Level, ranks: &[u16], k: usize) -> bool
     ranks[k] == 0
 }
 
-pub fn first_words(level: Level) -> usize
+pub(crate) fn first_words(level: Level) -> usize
     requires { ⌜ (level .power < 65536) × (level .actions < 256) ⌝ }
     ensures { λ r. ⌜ r ≡ firstWords level ⌝ }
 {
@@ -35,7 +41,7 @@ pub fn first_words(level: Level) -> usize
     level.power
 }
 
-pub fn good(p: &[u8], grid: &[[u16; 8]; 256], level: Level, ranks: &[u16], v: usize) -> bool
+pub(crate) fn good(p: &[u8], grid: &[[u16; 8]; 256], level: Level, ranks: &[u16], v: usize) -> bool
     requires { ⌜ (Sized (length (now p)) level) × (level .start < 65536) × (v < firstWords level) ⌝ }
     ensures { λ r. ⌜ r ≡ goodIn (now (p .entry)) (now (grid .entry)) level (now (ranks .entry)) v ⌝ }
 {
@@ -52,7 +58,7 @@ pub fn good(p: &[u8], grid: &[[u16; 8]; 256], level: Level, ranks: &[u16], v: us
     kept(p, level, ranks, reached * level.power + v % level.power)
 }
 
-pub fn some_good(p: &[u8], grid: &[[u16; 8]; 256], level: Level, ranks: &[u16]) -> bool
+pub(crate) fn some_good(p: &[u8], grid: &[[u16; 8]; 256], level: Level, ranks: &[u16]) -> bool
     requires { ⌜ (Sized (length (now p)) level) × (level .start < 65536) ⌝ }
     ensures { λ r. ⌜ r ≡ anyBelow (goodIn (now (p .entry)) (now (grid .entry)) level (now (ranks .entry))) (firstWords level) ⌝ }
 {
@@ -65,4 +71,49 @@ pub fn some_good(p: &[u8], grid: &[[u16; 8]; 256], level: Level, ranks: &[u16]) 
         v += 1;
     }
     false
+}
+
+fn flag(p: &[u8], grid: &[[u16; 8]; 256], level: Level, ranks: &[u16], v: usize) -> u8
+    requires { ⌜ (Sized (length (now p)) level) × (level .start < 65536) × (v < firstWords level) ⌝ }
+    ensures { λ r. ⌜ r ≡ flagIn (now (p .entry)) (now (grid .entry)) level (now (ranks .entry)) v ⌝ }
+{
+    if good(p, grid, level, ranks, v) {
+        return 1;
+    }
+    0
+}
+
+fn fill_flags(p: &[u8], grid: &[[u16; 8]; 256], level: Level, ranks: &[u16], flags: &mut [u8])
+    requires { ⌜ (Sized (length (now p)) level) × (level .start < 65536) × (length (now flags) ≡ firstWords level) ⌝ }
+    ensures { λ r. ⌜ now (flags .exit) ≡ tabulate (flagIn (now (p .entry)) (now (grid .entry)) level (now (ranks .entry))) 0 (firstWords level) ⌝ }
+{
+    let n = first_words(level);
+    let mut v: usize = 0;
+    while v < n {
+        flags[v] = flag(p, grid, level, ranks, v);
+        v += 1;
+    }
+}
+
+// The flags of a sheet's first words by these ranks, and how many they are; nothing and 0 where the sheet is refused or the buffer
+// has no room for all.
+pub fn initial_flags(sheet: &[u8], ranks: &[u16], flags: &mut [u8]) -> usize
+    ensures count { λ r. ⌜ r ≡ flagsCount (now (sheet .entry)) (length (now (flags .entry))) ⌝ }
+    ensures flags { λ r. ⌜ now (flags .exit) ≡ flagsAfter (now (sheet .entry)) (now (ranks .entry)) (now (flags .entry)) ⌝ }
+{
+    let reading = read(sheet);
+    let Reading::Accepted(l) = reading else {
+        return 0;
+    };
+    let positions = l.positions;
+    let p = part(sheet, positions);
+    let level = level_at(p.len(), l.start, l.actions, l.delay);
+    let n = first_words(level);
+    if flags.len() < n {
+        return 0;
+    }
+    let targets = l.targets;
+    let grid = grid_of(part(sheet, targets));
+    fill_flags(p, &grid, level, ranks, &mut flags[..n]);
+    n
 }

@@ -3,4 +3,7 @@ pub mod More
 pub mod Sheets
 pub mod Readable
 pub mod Made
+pub mod SizeLaws
 pub mod TableLaws
+pub mod WriteLaws
+pub mod MakeLaws

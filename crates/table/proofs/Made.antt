@@ -26,7 +26,7 @@ use Rattle.text.proofs.Numbers.{length-shorts}
 use Rattle.solver.specs.Solving.{solveAnswer}
 use Rattle.table.specs.Writing.{part}
 use Rattle.table.specs.TableSheet.{tableAnswer}
-use Rattle.table.specs.Making.{headerOf, winningSheet, losingSheet, Made, won, madeOf, outputSize, makeAnswer}
+use Rattle.table.specs.Making.{headerOf, rankBytes, winningSheet, losingSheet, Made, won, madeOf, outputSize, makeAnswer}
 use Rattle.table.proofs.More.{accepted-same, wins-winning}
 use Rattle.table.proofs.Sheets.{before, length-sheet}
 use Rattle.table.proofs.Readable.{Ranged, tableFor, winning-length, made-readable}
@@ -96,7 +96,7 @@ module _ (s : List ℕ) (masksRoom ranksRoom outputRoom : ℕ) where
 -- the made sheets fit
 
 pub losing-length : (G : Game) (m : ℕ) → length (losingSheet G m) ≡ 14 + 2 * arena G m .nodes
-unfolding losingSheet entrySize before headerOf
+unfolding losingSheet rankBytes entrySize before headerOf
 losing-length G m =
     length-sheet 2 (part 83 (headerOf G m) ∷ part 82 (shortsText (finalRanks (arena G m))) ∷ [])
     ∙ rw (length-shorts (finalRanks (arena G m)), final-length (arena G m)) (omega arith)

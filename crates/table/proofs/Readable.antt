@@ -22,7 +22,7 @@ use Rattle.sheet.specs.Form.{entrySize, contentsOk, bodyOf}
 use Rattle.sheet.specs.Checks.{nodesOf}
 use Rattle.table.specs.Writing.{Part, part}
 use Rattle.table.specs.TableSheet.{TableSheet, tableLetters, tableLayout, decode, tableNodes, numbersOk, belowAt, bytesBelow, bodiesOk, shapeAnswer, someFlagged, tableAnswer}
-use Rattle.table.specs.Making.{headerOf, winningSheet}
+use Rattle.table.specs.Making.{headerOf, tableBytes, winningSheet}
 use Rattle.table.proofs.More.{power-bound}
 use Rattle.table.proofs.Sheets.{before, length-sheet, body-is, contents-ok}
 
@@ -60,26 +60,26 @@ module _ (G : Game) (d : ℕ) (ranged : Ranged G d) where
   parts-size = rw (flags-length, masks-length) (omega arith)
 
   pub winning-length : length (winningSheet G d) ≡ 19 + initialWords G d + arena G d .nodes
-  unfolding winningSheet
+  unfolding winningSheet tableBytes
   winning-length = length-sheet 2 (winningParts G d) ∙ parts-size
 
   parts-fit : entrySize 2 * 3 + before (winningParts G d) 3 < 256 ^ 2
   parts-fit = rw parts-size (omega (arith, few-words, ranged .few-nodes))
 
   contents : contentsOk 2 tableLetters (winningSheet G d) ≡ true
-  unfolding winningSheet
+  unfolding winningSheet tableBytes
   contents = contents-ok 2 (winningParts G d) parts-fit
 
   header-body : bodyOf 2 (winningSheet G d) 0 ≡ headerOf G d
-  unfolding winningSheet
+  unfolding winningSheet tableBytes
   header-body = body-is 2 (winningParts G d) parts-fit 0 (omega arith)
 
   flags-body : bodyOf 2 (winningSheet G d) 1 ≡ flags G d
-  unfolding winningSheet
+  unfolding winningSheet tableBytes
   flags-body = body-is 2 (winningParts G d) parts-fit 1 (omega arith)
 
   masks-body : bodyOf 2 (winningSheet G d) 2 ≡ masks (arena G d)
-  unfolding winningSheet
+  unfolding winningSheet tableBytes
   masks-body = body-is 2 (winningParts G d) parts-fit 2 (omega arith)
 
   pub made-says : decode (winningSheet G d) ≡ tableFor G d

@@ -1,11 +1,11 @@
 -- Checks 10 to 12 and the masks, as the code of src/reading.rt finds them: the checks before have passed, and one fails.
 -- Assumes nothing.
-use Prim.Native.Nat.{ℕ, _+_, _*_, _/_, _^_, _≤_, _<_}
+use Prim.Native.Nat.{ℕ, _+_, _^_, _≤_, _<_}
 use mathlib.Core.Path.{_≡_, refl, sym, _∙_, ap}
 use mathlib.Core.Bool.{Bool, true, false, not}
 use mathlib.Core.List.{List, []}
 use native.Mathlib.Omega.{arith}
-use native.Mathlib.Nat.{mul-le-mul, le-trans}
+use native.Mathlib.Nat.{le-trans}
 use lib.Dec.{leb, ltb}
 use lib.Pow.{pow-mono}
 use lib.ListN.{length, getD}
@@ -27,7 +27,7 @@ use Rattle.table.specs.TableSheet.{TableSheet, tableLetters, tableLayout
 use Rattle.table.specs.declared.reading.TableLayout.{TableLayout}
 use Rattle.table.specs.declared.reading.TableReading.{TableReading}
 use Rattle.table.specs.declared.reading.TableReading.the-variants.{Accepted, Refused}
-use Rattle.table.proofs.More.{power-bound, small-power}
+use Rattle.table.proofs.More.{small-power}
 
 -- the layout
 
@@ -38,19 +38,6 @@ unfolding tableLayout
 layout-is s h a b d e x y p q r t u v w = rw (q, r, t, u, p, v, w)
 
 pub ruleset layouts = (needs, layout-is)
-
--- sizes; u, v are bytes as numbers, w a power
-
-pub nodes-is : (h a d u v w : ℕ) → a ≤ 8 → d ≤ 6 → v ≡ d → w ≡ powerTo a (v / 2) → u ≡ h → (u + 1) * w ≡ nodesOf (h + 1) a d
-unfolding nodesOf
-nodes-is h a d u v w f g e p q =
-    let few : d / 2 ≤ 3 = omega arith in
-    rw (q, p, e) (ap (λ n. (h + 1) * n) (small-power a (d / 2) (power-bound a (d / 2) f few)))
-
-pub nodes-fit : {h u w : ℕ} → u ≡ h → h < 256 → w ≤ 65536 → (u + 1) * w ≤ 256 * 65536
-nodes-fit {h} {u} {w} e f g = let few : u + 1 ≤ 256 = omega arith in mul-le-mul few g
-
-pub ruleset sizes = (needs, nodes-is)
 
 -- 11, the S body
 
@@ -76,11 +63,11 @@ module _ (size : ℕ) (l : TableLayout) where
   high-start e =
       sym (both-false _ _ (both-false _ _ (both-false _ _ (both-false _ _ (both-none _ _ (lt-leb (l .start) (l .highest) e))))))
 
-  pub numbers-end : (r : ℕ) → size ≡ 4 → 1 ≤ l .actions → l .actions ≤ 8 → l .delay ≤ 6 → l .start ≤ l .highest
-      → r ≡ nodesOf (l .highest + 1) (l .actions) (l .delay) → leb r 16384 ≡ numbersOk size (says l [] [])
+  pub numbers-end : (v r : ℕ) → size ≡ 4 → 1 ≤ l .actions → l .actions ≤ 8 → l .delay ≤ 6 → l .start ≤ l .highest → v ≡ l .highest
+      → r ≡ nodesOf (v + 1) (l .actions) (l .delay) → leb r 16384 ≡ numbersOk size (says l [] [])
   unfolding numbersOk tableNodes
-  numbers-end r e a b d h n =
-      ap (λ m. leb m 16384) n
+  numbers-end v r e a b d h g n =
+      ap (λ m. leb m 16384) (rw g at n)
       ∙ sym
       (both-second _ _ (eq-eqb _ _ e)
       ∙ both-second _ _ (le-leb _ _ a)
@@ -107,43 +94,37 @@ module _ (bound : ℕ) (b : List ℕ) where
 
 pub ruleset below = (needs, all-none, all-next, below-is, below-stopped, below-done)
 
--- 11, the W and T bodies; v is the delay as a number, x and n what the lengths must be, r a test's result
+-- 11, the W and T bodies; v is the highest position as a number, x and n what the lengths must be, r a test's result
 
-module _ (l : TableLayout) (w t : List ℕ) where
-  module _ (v x : ℕ) (few : l .actions ≤ 8) (short : l .delay ≤ 6) (ev : v ≡ l .delay) (ex : x ≡ powerTo (l .actions) ((v + 1) / 2)) where
-    words-are : x ≡ l .actions ^ initialLength (l .delay)
-    words-are =
-        let n : (l .delay + 1) / 2 ≤ 3 = omega arith in
-        ex
-        ∙ ap (λ d. powerTo (l .actions) ((d + 1) / 2)) ev
-        ∙ small-power (l .actions) ((l .delay + 1) / 2) (power-bound (l .actions) ((l .delay + 1) / 2) few n)
+module _ (l : TableLayout) (w t : List ℕ) (x : ℕ) (ex : x ≡ l .actions ^ initialLength (l .delay)) where
+  pub words-wrong : (length w ≡ x → ⊥) → false ≡ bodiesOk (says l w t)
+  unfolding bodiesOk
+  words-wrong e = sym (both-none _ _ (ne-eqb _ _ (λ f. e (f ∙ sym ex))))
 
-    pub words-wrong : (length w ≡ x → ⊥) → false ≡ bodiesOk (says l w t)
+  module _ (v n : ℕ) (ev : v ≡ l .highest) (en : n ≡ nodesOf (v + 1) (l .actions) (l .delay)) where
+    nodes-are : n ≡ tableNodes (says l w t)
+    unfolding tableNodes
+    nodes-are = en ∙ ap (λ h. nodesOf (h + 1) (l .actions) (l .delay)) ev
+
+    pub nodes-wrong : (length t ≡ n → ⊥) → false ≡ bodiesOk (says l w t)
     unfolding bodiesOk
-    words-wrong e = sym (both-none _ _ (ne-eqb _ _ (λ f. e (f ∙ sym words-are))))
+    nodes-wrong e = sym (both-false _ _ (both-none _ _ (ne-eqb _ _ (λ f. e (f ∙ sym nodes-are)))))
 
-    module _ (n : ℕ) (en : n ≡ nodesOf (l .highest + 1) (l .actions) (l .delay)) where
-      pub nodes-wrong : (length t ≡ n → ⊥) → false ≡ bodiesOk (says l w t)
-      unfolding bodiesOk tableNodes
-      nodes-wrong e = sym (both-false _ _ (both-none _ _ (ne-eqb _ _ (λ f. e (f ∙ sym en)))))
+    module _ (r : Bool) (er : r ≡ bytesBelow 2 w) where
+      pub flag-over : not r ≡ true → false ≡ bodiesOk (says l w t)
+      unfolding bodiesOk
+      flag-over g = sym (both-false _ _ (both-false _ _ (both-none _ _ (failed er g))))
 
-      module _ (r : Bool) (er : r ≡ bytesBelow 2 w) where
-        pub flag-over : not r ≡ true → false ≡ bodiesOk (says l w t)
-        unfolding bodiesOk
-        flag-over g = sym (both-false _ _ (both-false _ _ (both-none _ _ (failed er g))))
-
-        pub bodies-end : (a y : ℕ) (q : Bool) → length w ≡ x → length t ≡ n → not r ≡ false → a ≡ l .actions → y ≡ powerTo 2 a
-            → q ≡ bytesBelow y t → q ≡ bodiesOk (says l w t)
-        unfolding bodiesOk tableNodes
-        bodies-end a y q ew et g ea ey eq =
-            let two : 2 ^ l .actions ≤ 512 = le-trans (pow-mono few) (omega arith) in
-            let same : y ≡ 2 ^ l .actions = ey ∙ ap (powerTo 2) ea ∙ small-power 2 (l .actions) two in
-            eq
-            ∙ ap (λ b. bytesBelow b t) same
-            ∙ sym
-            (both-second _ _ (eq-eqb _ _ (ew ∙ words-are))
-            ∙ both-second _ _ (eq-eqb _ _ (et ∙ en))
-            ∙ both-second _ _ (passed er g))
+      pub bodies-end : (a y : ℕ) (q : Bool) → l .actions ≤ 8 → length w ≡ x → length t ≡ n → not r ≡ false → a ≡ l .actions
+          → y ≡ powerTo 2 a → q ≡ bytesBelow y t → q ≡ bodiesOk (says l w t)
+      unfolding bodiesOk
+      bodies-end a y q few ew et g ea ey eq =
+          let two : 2 ^ l .actions ≤ 512 = le-trans (pow-mono few) (omega arith) in
+          let same : y ≡ 2 ^ l .actions = ey ∙ ap (powerTo 2) ea ∙ small-power 2 (l .actions) two in
+          eq
+          ∙ ap (λ b. bytesBelow b t) same
+          ∙ sym
+          (both-second _ _ (eq-eqb _ _ (ew ∙ ex)) ∙ both-second _ _ (eq-eqb _ _ (et ∙ nodes-are)) ∙ both-second _ _ (passed er g))
 
 pub ruleset bodies = (needs, words-wrong, nodes-wrong, flag-over, bodies-end)
 

@@ -1,4 +1,6 @@
 // Reading a table sheet: document 01's refusals 10 to 12, in the order written.
+use crate::sizes::nodes_at;
+use crate::sizes::words_at;
 use sheet::form::Place;
 use sheet::form::body;
 use sheet::form::byte;
@@ -12,7 +14,6 @@ ghost use mathlib.Core.Path.{_≡_};
 ghost use mathlib.Core.List.{[]};
 ghost use Prim.Native.Nat.{_+_, _≤_};
 ghost use Rattle.sheet.specs.Limits.{mostActions, mostDelay};
-ghost use Rattle.sheet.specs.Checks.{nodesOf};
 ghost use Rattle.table.specs.TableSheet.{tableLayout, says, numbersOk, belowAt, bytesBelow, bodiesOk, shapeAnswer, someFlagged, tableAnswer, masksOf, meaning};
 
 const MOST_ACTIONS: u8 = 8;
@@ -56,15 +57,6 @@ fn layout_at(s: &[u8]) -> TableLayout
     }
 }
 
-// How many nodes a table of these numbers has.
-fn table_nodes(l: TableLayout) -> usize
-    requires { ⌜ (l .actions ≤ mostActions) × (l .delay ≤ mostDelay) ⌝ }
-    ensures { λ r. ⌜ r ≡ nodesOf (l .highest + 1) (l .actions) (l .delay) ⌝ }
-{
-    let words = power(l.actions, wide(l.delay) / 2);
-    (wide(l.highest) + 1) * words
-}
-
 // Check 11, the S body, of so many bytes.
 fn numbers_ok(size: usize, l: TableLayout) -> bool
     ensures { λ r. ⌜ r ≡ numbersOk size (says l [] []) ⌝ }
@@ -84,7 +76,7 @@ fn numbers_ok(size: usize, l: TableLayout) -> bool
     if l.highest < l.start {
         return false;
     }
-    table_nodes(l) <= MOST_NODES
+    nodes_at(wide(l.highest) + 1, l.actions, l.delay) <= MOST_NODES
 }
 
 fn below_at(bound: usize, b: &[u8], k: usize) -> bool
@@ -112,10 +104,10 @@ fn bodies_ok(l: TableLayout, w: &[u8], t: &[u8]) -> bool
     requires { ⌜ (l .actions ≤ mostActions) × (l .delay ≤ mostDelay) ⌝ }
     ensures { λ r. ⌜ r ≡ bodiesOk (says l (now (w .entry)) (now (t .entry))) ⌝ }
 {
-    if w.len() != power(l.actions, (wide(l.delay) + 1) / 2) {
+    if w.len() != words_at(l.actions, l.delay) {
         return false;
     }
-    if t.len() != table_nodes(l) {
+    if t.len() != nodes_at(wide(l.highest) + 1, l.actions, l.delay) {
         return false;
     }
     if !bytes_below(2, w) {

@@ -1,3 +1,4 @@
+-- `sheet::form::body` meets its contract, by the laws of proofs/FormLaws.antt. Assumes nothing.
 use Rattle.sheet.proofs.FormLaws.{parts}
 use Rattle.sheet.proofs.form.body.Statement.{statement}
 use Rattle.sheet.proofs.form.body.Tie as tie

@@ -1,8 +1,10 @@
-use borrow.Author.Needs.{needs}
+-- `sheet::form::contents_ok` meets its contract, by the laws of proofs/FormLaws.antt. The loop has passed k right entries, and body k must begin at `at`.
+-- Assumes nothing.
 use Prim.Native.Nat.{_≤_, _-_}
 use mathlib.Core.Path.{_≡_}
 use mathlib.Core.Bool.{true}
 use lib.ListN.{length}
+use borrow.Author.Needs.{needs}
 use Rattle.theory.specs.Fold.{allBelow}
 use Rattle.sheet.specs.Form.{placeOf, entryOk}
 use Rattle.sheet.proofs.FormLaws.{contents, entries-again, place-again}
@@ -69,11 +71,12 @@ loop-less c = search contents
 
 loop-again : tie.Need-loop-again Inv-loop μ-loop
 loop-again c =
-    let turn = c .before .before .before .before .before .before .before .loop .inv in
-    (search needs,
-    entries-again _ _ _ _ _ (turn .1) (c .before .before .before .if2 .left) (turn .2) (c .before .before .word .ensures .0)
-    (c .before .if3 .left),
-    place-again _ _ _ _ _ (turn .2) (c .word2 .ensures .0))
+    let turn = c .before .before .before .before .before .before .before .loop .inv in (
+      search needs,
+      entries-again _ _ _ _ _ (turn .1) (c .before .before .before .if2 .left) (turn .2) (c .before .before .word .ensures .0)
+          (c .before .if3 .left),
+      place-again _ _ _ _ _ (turn .2) (c .word2 .ensures .0),
+    )
 
 returns-4 : tie.Need-returns-4 Inv-loop μ-loop
 returns-4 c = search contents

@@ -1,3 +1,4 @@
+-- `sheet::form::part` meets its contract, by the laws of proofs/FormLaws.antt. Assumes nothing.
 use Rattle.sheet.proofs.FormLaws.{parts}
 use Rattle.sheet.proofs.form.part.Statement.{statement}
 use Rattle.sheet.proofs.form.part.Tie as tie

@@ -1,3 +1,4 @@
+-- `sheet::form::word` meets its contract, by the laws of proofs/FormLaws.antt. Assumes nothing.
 use Rattle.sheet.proofs.FormLaws.{bytes}
 use Rattle.sheet.proofs.form.word.Statement.{statement}
 use Rattle.sheet.proofs.form.word.Tie as tie

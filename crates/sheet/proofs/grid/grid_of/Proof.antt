@@ -1,11 +1,13 @@
+-- `sheet::grid::grid_of` meets its contract, by the laws of proofs/GridLaws.antt. The loop has the grid of the first k lines.
+-- Assumes nothing.
 use Prim.Native.Nat.{_+_, _-_, _*_, _/_, _≤_}
 use mathlib.Core.Path.{_≡_, _∙_}
 use mathlib.Core.Logic.{⊎-elim}
 use native.Mathlib.Omega.{arith}
 use lib.ListN.{length}
-use Rattle.sheet.proofs.GridLaws.{grid-start, grid-line, grid-skip, grid-done}
-use Rattle.sheet.specs.Meant.{gridAfter}
 use borrow.Author.Needs.{needs}
+use Rattle.sheet.specs.Meant.{gridAfter}
+use Rattle.sheet.proofs.GridLaws.{grid-start, grid-line, grid-skip, grid-done}
 use Rattle.sheet.proofs.grid.grid_of.Statement.{statement}
 use Rattle.sheet.proofs.grid.grid_of.Tie as tie
 
@@ -73,12 +75,13 @@ loop-again : tie.Need-loop-again Inv-loop μ-loop
 loop-again c =
     let turn = c .before .before .before .before .before .before .before .loop .inv in
     let from = c .before .before .before .before .wide .ensures in
-    let action = c .before .before .wide2 .ensures .0 in
-    (omega arith,
-    ⊎-elim
-    (λ w. w .1 ∙ grid-line _ _ _ _ _ (turn .1) (from .0) (from .1) action (w .0 .taken))
-    (λ w. w .1 ∙ grid-skip _ _ _ _ _ (turn .1) (from .0) action (w .0 .left))
-    (c .if1 .came))
+    let action = c .before .before .wide2 .ensures .0 in (
+      omega arith,
+      ⊎-elim
+          (λ w. w .1 ∙ grid-line _ _ _ _ _ (turn .1) (from .0) (from .1) action (w .0 .taken))
+          (λ w. w .1 ∙ grid-skip _ _ _ _ _ (turn .1) (from .0) action (w .0 .left))
+          (c .if1 .came),
+    )
 
 returns : tie.Need-returns Inv-loop μ-loop
 returns c = search grid-done

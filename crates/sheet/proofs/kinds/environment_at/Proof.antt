@@ -1,3 +1,4 @@
+-- `sheet::kinds::environment_at` meets its contract, by the laws of proofs/KindLaws.antt. Assumes nothing.
 use Rattle.sheet.proofs.KindLaws.{kinds}
 use Rattle.sheet.proofs.kinds.environment_at.Statement.{statement}
 use Rattle.sheet.proofs.kinds.environment_at.Tie as tie

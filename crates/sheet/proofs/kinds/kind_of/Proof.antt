@@ -1,3 +1,4 @@
+-- `sheet::kinds::kind_of` meets its contract, by the laws of proofs/KindLaws.antt. Assumes nothing.
 use Rattle.sheet.proofs.KindLaws.{of-byte}
 use Rattle.sheet.proofs.kinds.kind_of.Statement.{statement}
 use Rattle.sheet.proofs.kinds.kind_of.Tie as tie

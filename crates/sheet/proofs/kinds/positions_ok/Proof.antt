@@ -1,3 +1,5 @@
+-- `sheet::kinds::positions_ok` meets its contract, by the laws of proofs/KindLaws.antt. The loop has passed q known positions.
+-- Assumes nothing.
 use Prim.Native.Nat.{_≤_, _-_}
 use mathlib.Core.Path.{_≡_}
 use mathlib.Core.Bool.{true}

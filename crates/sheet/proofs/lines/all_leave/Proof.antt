@@ -1,3 +1,5 @@
+-- `sheet::lines::all_leave` meets its contract, by the laws of proofs/CheckLaws.antt. The loop has passed q positions that have a move.
+-- Assumes nothing.
 use Prim.Native.Nat.{_≤_, _-_}
 use mathlib.Core.Path.{_≡_}
 use mathlib.Core.Bool.{true}

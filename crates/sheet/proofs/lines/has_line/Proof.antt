@@ -1,7 +1,9 @@
-use native.Mathlib.Omega.{arith}
+-- `sheet::lines::has_line` meets its contract, by the laws of proofs/CheckLaws.antt. The loop has passed k lines that begin otherwise.
+-- Assumes nothing.
 use Prim.Native.Nat.{_≤_, _-_}
 use mathlib.Core.Path.{_≡_}
 use mathlib.Core.Bool.{false}
+use native.Mathlib.Omega.{arith}
 use Rattle.theory.specs.Fold.{anyBelow}
 use Rattle.sheet.specs.Checks.{beginsAt}
 use Rattle.sheet.proofs.CheckLaws.{some-line, line-within}

@@ -1,3 +1,4 @@
+-- `sheet::lines::key` meets its contract, by the laws of proofs/CheckLaws.antt. Assumes nothing.
 use Rattle.sheet.proofs.CheckLaws.{keys}
 use Rattle.sheet.proofs.lines.key.Statement.{statement}
 use Rattle.sheet.proofs.lines.key.Tie as tie

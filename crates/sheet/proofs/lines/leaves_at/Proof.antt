@@ -1,3 +1,4 @@
+-- `sheet::lines::leaves_at` meets its contract, by the laws of proofs/CheckLaws.antt. Assumes nothing.
 use Rattle.sheet.proofs.CheckLaws.{leaving}
 use Rattle.sheet.proofs.lines.leaves_at.Statement.{statement}
 use Rattle.sheet.proofs.lines.leaves_at.Tie as tie

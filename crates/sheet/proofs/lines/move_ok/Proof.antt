@@ -1,3 +1,4 @@
+-- `sheet::lines::move_ok` meets its contract, by the laws of proofs/CheckLaws.antt. Assumes nothing.
 use Rattle.sheet.proofs.CheckLaws.{a-move}
 use Rattle.sheet.proofs.lines.move_ok.Statement.{statement}
 use Rattle.sheet.proofs.lines.move_ok.Tie as tie

@@ -1,3 +1,5 @@
+-- `sheet::lines::moves_ok` meets its contract, by the laws of proofs/CheckLaws.antt. The loop has passed k right lines.
+-- Assumes nothing.
 use Prim.Native.Nat.{_≤_, _-_, _/_}
 use mathlib.Core.Path.{_≡_}
 use mathlib.Core.Bool.{true}

@@ -1,3 +1,4 @@
+-- `sheet::lines::rises` meets its contract, by the laws of proofs/CheckLaws.antt. Assumes nothing.
 use native.Mathlib.Omega.{arith}
 use Rattle.sheet.proofs.CheckLaws.{keys, earlier}
 use Rattle.sheet.proofs.lines.rises.Statement.{statement}

@@ -1,3 +1,4 @@
+-- `sheet::lines::target_ok` meets its contract, by the laws of proofs/CheckLaws.antt. Assumes nothing.
 use Rattle.sheet.proofs.CheckLaws.{a-target}
 use Rattle.sheet.proofs.lines.target_ok.Statement.{statement}
 use Rattle.sheet.proofs.lines.target_ok.Tie as tie

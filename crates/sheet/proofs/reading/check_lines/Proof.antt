@@ -1,3 +1,4 @@
+-- `sheet::reading::check_lines` meets its contract, by the laws of proofs/ReadLaws.antt. Assumes nothing.
 use Rattle.sheet.proofs.More.{passed}
 use Rattle.sheet.proofs.ReadLaws.{checks-lines, accepts}
 use Rattle.sheet.proofs.reading.check_lines.Statement.{statement}

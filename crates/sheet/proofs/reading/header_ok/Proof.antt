@@ -1,3 +1,4 @@
+-- `sheet::reading::header_ok` meets its contract, by the laws of proofs/CheckLaws.antt. Assumes nothing.
 use Rattle.sheet.proofs.CheckLaws.{header}
 use Rattle.sheet.proofs.reading.header_ok.Statement.{statement}
 use Rattle.sheet.proofs.reading.header_ok.Tie as tie

@@ -1,12 +1,13 @@
-use Rattle.sheet.proofs.ReadLaws.{layout-is}
+-- `sheet::reading::layout_at` meets its contract, by the laws of proofs/ReadLaws.antt. Assumes nothing.
 use borrow.Author.Needs.{needs}
-use Rattle.sheet.proofs.reading.layout_at.Statement.{statement}
-use Rattle.sheet.proofs.reading.layout_at.Tie as tie
+use Rattle.sheet.proofs.ReadLaws.{layout-is}
 use Rattle.sheet.proofs.reading.layout_at.Reads as reads
 use Rattle.sheet.proofs.reading.layout_at.Lts as lts
 use Rattle.sheet.proofs.form.body.Reads as body-reads
 use Rattle.sheet.proofs.form.byte.Reads as byte-reads
 use Rattle.sheet.proofs.form.placed.Reads as placed-reads
+use Rattle.sheet.proofs.reading.layout_at.Statement.{statement}
+use Rattle.sheet.proofs.reading.layout_at.Tie as tie
 
 -- src/reading.rt:64:9
 body-requires : tie.Need-body-requires

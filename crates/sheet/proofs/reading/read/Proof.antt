@@ -1,3 +1,4 @@
+-- `sheet::reading::read` meets its contract, by the laws of proofs/ReadLaws.antt. Assumes nothing.
 use Rattle.sheet.proofs.ReadLaws.{reads}
 use Rattle.sheet.proofs.reading.read.Statement.{statement}
 use Rattle.sheet.proofs.reading.read.Tie as tie

@@ -1,3 +1,4 @@
+-- `sheet::reading::refusal_number` meets its contract, by the laws of proofs/ReadLaws.antt. Assumes nothing.
 use Rattle.sheet.proofs.ReadLaws.{numbers}
 use Rattle.sheet.proofs.reading.refusal_number.Statement.{statement}
 use Rattle.sheet.proofs.reading.refusal_number.Tie as tie

@@ -1,3 +1,4 @@
+-- `sheet::refusal::number` meets its contract, by the laws of proofs/ReadLaws.antt. Assumes nothing.
 use Rattle.sheet.proofs.ReadLaws.{numbers}
 use Rattle.sheet.proofs.refusal.number.Statement.{statement}
 use Rattle.sheet.proofs.refusal.number.Tie as tie

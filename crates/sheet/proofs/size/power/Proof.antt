@@ -1,6 +1,8 @@
-use native.Mathlib.Omega.{arith}
+-- `sheet::size::power` meets its contract, by the laws of proofs/SizeLaws.antt. The loop has r at the power i, not cut off.
+-- Assumes nothing.
 use Prim.Native.Nat.{_≤_, _-_, _^_}
 use mathlib.Core.Path.{_≡_}
+use native.Mathlib.Omega.{arith}
 use Rattle.sheet.specs.Limits.{mostPower}
 use Rattle.sheet.proofs.SizeLaws.{powers, product-small}
 use Rattle.sheet.proofs.size.power.Statement.{statement}

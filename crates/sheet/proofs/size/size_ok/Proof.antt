@@ -1,3 +1,4 @@
+-- `sheet::size::size_ok` meets its contract, by the laws of proofs/SizeLaws.antt. Assumes nothing.
 use native.Mathlib.Omega.{arith}
 use native.Mathlib.Nat.{mul-le-mul}
 use borrow.Author.Needs.{needs}

@@ -3,20 +3,20 @@ use Rattle.table.proofs.TableLaws.{bodies}
 use Rattle.table.proofs.reading.bodies_ok.Statement.{statement}
 use Rattle.table.proofs.reading.bodies_ok.Tie as tie
 
-wide-requires : tie.Need-wide-requires
-wide-requires c κs = search bodies
-
-add-power : tie.Need-add-power
-add-power c = search bodies
-
-power-requires : tie.Need-power-requires
-power-requires c κs = search bodies
+words-at-requires : tie.Need-words-at-requires
+words-at-requires c κs = search bodies
 
 returns : tie.Need-returns
 returns c = search bodies
 
-table-nodes-requires : tie.Need-table-nodes-requires
-table-nodes-requires c κs = search bodies
+wide-requires : tie.Need-wide-requires
+wide-requires c κs = search bodies
+
+add-nodes-at : tie.Need-add-nodes-at
+add-nodes-at c = search bodies
+
+nodes-at-requires : tie.Need-nodes-at-requires
+nodes-at-requires c κs = search bodies
 
 returns-2 : tie.Need-returns-2
 returns-2 c = search bodies
@@ -30,8 +30,8 @@ returns-3 c = search bodies
 wide-requires-2 : tie.Need-wide-requires-2
 wide-requires-2 c κs = search bodies
 
-power-requires-2 : tie.Need-power-requires-2
-power-requires-2 c κs = search bodies
+power-requires : tie.Need-power-requires
+power-requires c κs = search bodies
 
 bytes-below-requires-2 : tie.Need-bytes-below-requires-2
 bytes-below-requires-2 c κs = search bodies
@@ -43,15 +43,15 @@ pub bodies-ok-spec : {M : Type 1} → statement M
 bodies-ok-spec =
     tie.close
     (tie.spec
-    wide-requires
-    add-power
-    power-requires
+    words-at-requires
     returns
-    table-nodes-requires
+    wide-requires
+    add-nodes-at
+    nodes-at-requires
     returns-2
     bytes-below-requires
     returns-3
     wide-requires-2
-    power-requires-2
+    power-requires
     bytes-below-requires-2
     returns-4)

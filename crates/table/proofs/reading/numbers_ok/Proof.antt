@@ -18,8 +18,14 @@ returns-4 c = search numbers
 returns-5 : tie.Need-returns-5
 returns-5 c = search numbers
 
-table-nodes-requires : tie.Need-table-nodes-requires
-table-nodes-requires c κs = search numbers
+wide-requires : tie.Need-wide-requires
+wide-requires c κs = search numbers
+
+add-nodes-at : tie.Need-add-nodes-at
+add-nodes-at c = search numbers
+
+nodes-at-requires : tie.Need-nodes-at-requires
+nodes-at-requires c κs = search numbers
 
 returns-6 : tie.Need-returns-6
 returns-6 c = search numbers
@@ -27,4 +33,13 @@ returns-6 c = search numbers
 pub numbers-ok-spec : {M : Type 1} → statement M
 numbers-ok-spec =
     tie.close
-    (tie.spec returns returns-2 returns-3 returns-4 returns-5 table-nodes-requires returns-6)
+    (tie.spec
+    returns
+    returns-2
+    returns-3
+    returns-4
+    returns-5
+    wide-requires
+    add-nodes-at
+    nodes-at-requires
+    returns-6)

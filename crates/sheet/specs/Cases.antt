@@ -1,0 +1,138 @@
+-- Sheets with the answers that document 01 gives them, and what the guess yard means: the table that proofs/Cases.antt computes.
+-- Not here, for their size: sheets of 4,096 and 4,097 moves. Assumes nothing.
+use Prim.Native.Nat.{ℕ, zero, suc, _+_, _/_, _%_}
+use mathlib.Core.List.{List, [], _∷_, _++_}
+use lib.ListN.{length, take, drop, set, replicate}
+use Rattle.theory.specs.Answer.{Answer, refused, accepted}
+use Rattle.sheet.specs.declared.reading.Layout.{Layout}
+
+pub record Case : Type 0 where
+  pub sheet : List ℕ
+  pub answer : Answer Layout
+
+-- document 01's guess yard, lag 1, as its 45 bytes
+unfoldable pub guess : List ℕ
+guess =
+    83 ∷ 20 ∷ 0 ∷ 3 ∷ 0 ∷ 80 ∷ 23 ∷ 0 ∷ 4 ∷ 0 ∷ 67 ∷ 27 ∷ 0 ∷ 12 ∷ 0 ∷ 85 ∷ 39 ∷ 0 ∷ 6 ∷ 0
+    ∷ 0 ∷ 2 ∷ 1
+    ∷ 0 ∷ 0 ∷ 2 ∷ 3
+    ∷ 0 ∷ 0 ∷ 2 ∷ 0 ∷ 1 ∷ 3 ∷ 1 ∷ 0 ∷ 3 ∷ 1 ∷ 1 ∷ 2
+    ∷ 2 ∷ 0 ∷ 2 ∷ 1 ∷ 3 ∷ 0 ∷ []
+
+-- a number in two bytes
+unfoldable pub twoBytes : ℕ → List ℕ
+twoBytes n = n % 256 ∷ n / 256 ∷ []
+
+-- entries for bodies that begin at a place, one after another
+unfoldable pub contentsFrom : ℕ → List ℕ → List (List ℕ) → List ℕ
+contentsFrom at [] bodies = []
+contentsFrom at (letter ∷ letters) [] = []
+contentsFrom at (letter ∷ letters) (body ∷ bodies) =
+    letter ∷ twoBytes at ++ (twoBytes (length body) ++ contentsFrom (at + length body) letters bodies)
+
+-- a game sheet with these bodies S, P, C, U and right contents
+unfoldable pub sheetWith : List ℕ → List ℕ → List ℕ → List ℕ → List ℕ
+sheetWith h p c u =
+    contentsFrom 20 (83 ∷ 80 ∷ 67 ∷ 85 ∷ []) (h ∷ p ∷ c ∷ u ∷ []) ++ (h ++ (p ++ (c ++ u)))
+
+-- the guess yard with other bodies S, P, C or U
+unfoldable pub guessS : List ℕ → List ℕ
+guessS h = sheetWith h (0 ∷ 0 ∷ 2 ∷ 3 ∷ []) (take 12 (drop 27 guess)) (drop 39 guess)
+
+unfoldable pub guessP : List ℕ → List ℕ
+guessP p = sheetWith (0 ∷ 2 ∷ 1 ∷ []) p (take 12 (drop 27 guess)) (drop 39 guess)
+
+unfoldable pub guessC : List ℕ → List ℕ
+guessC c = sheetWith (0 ∷ 2 ∷ 1 ∷ []) (0 ∷ 0 ∷ 2 ∷ 3 ∷ []) c (drop 39 guess)
+
+unfoldable pub guessU : List ℕ → List ℕ
+guessU u = sheetWith (0 ∷ 2 ∷ 1 ∷ []) (0 ∷ 0 ∷ 2 ∷ 3 ∷ []) (take 12 (drop 27 guess)) u
+
+-- document 01's loop at a lag
+unfoldable pub loop : ℕ → List ℕ
+loop d = sheetWith (0 ∷ 1 ∷ d ∷ []) (0 ∷ 2 ∷ []) (0 ∷ 0 ∷ 1 ∷ []) (1 ∷ 0 ∷ [])
+
+-- n own positions that all lead to one of the yard, and back, with A 8 at a lag
+unfoldable pub lines : ℕ → ℕ → ℕ → List ℕ
+lines end from zero = []
+lines end from (suc n) = from ∷ 0 ∷ end ∷ lines end (suc from) n
+
+unfoldable pub star : ℕ → ℕ → List ℕ
+star n d = sheetWith (0 ∷ 8 ∷ d ∷ []) (replicate n 0 ++ (2 ∷ [])) (lines n 0 n) (n ∷ 0 ∷ [])
+
+-- what a reading of a sheet with these numbers carries: the start bytes and where P, C and U lie
+unfoldable pub layout : ℕ → ℕ → ℕ → ℕ → ℕ → ℕ → Layout
+layout start actions delay p c u =
+    record {
+      start = start;
+      actions = actions;
+      delay = delay;
+      header = record { at = 20; size = 3 };
+      positions = record { at = 23; size = p };
+      targets = record { at = 23 + p; size = c };
+      moves = record { at = 23 + p + c; size = u };
+    }
+
+unfoldable pub right : List ℕ → Layout → Case
+right s l = record { sheet = s; answer = accepted l }
+
+unfoldable pub wrong : ℕ → List ℕ → Case
+wrong n s = record { sheet = s; answer = refused n }
+
+unfoldable pub cases : List Case
+cases =
+    right guess (layout 0 2 1 4 12 6)
+    ∷ right (guessS (0 ∷ 2 ∷ 1 ∷ [])) (layout 0 2 1 4 12 6)
+    ∷ right (loop 6) (layout 0 1 6 2 3 2)
+    -- 1: short, letters, first offset, a gap, an offset 256 too high, an end before and after the sheet's
+    ∷ wrong 1 []
+    ∷ wrong 1 (take 19 guess)
+    ∷ wrong 1 (set guess 0 80)
+    ∷ wrong 1 (set guess 15 86)
+    ∷ wrong 1 (set guess 1 19)
+    ∷ wrong 1 (set guess 6 24)
+    ∷ wrong 1 (set guess 7 1)
+    ∷ wrong 1 (take 44 guess)
+    ∷ wrong 1 (guess ++ (0 ∷ []))
+    -- 2: no position, 257 of them, a byte over 3
+    ∷ wrong 2 (guessP [])
+    ∷ wrong 2 (guessP (replicate 257 0))
+    ∷ wrong 2 (guessP (0 ∷ 0 ∷ 2 ∷ 4 ∷ []))
+    -- 3: four bytes, A 0 and 9, lag 7, start absent and the yard's
+    ∷ wrong 3 (guessS (0 ∷ 2 ∷ 1 ∷ 0 ∷ []))
+    ∷ wrong 3 (guessS (0 ∷ 0 ∷ 1 ∷ []))
+    ∷ wrong 3 (guessS (0 ∷ 9 ∷ 1 ∷ []))
+    ∷ wrong 3 (loop 7)
+    ∷ wrong 3 (guessS (4 ∷ 2 ∷ 1 ∷ []))
+    ∷ wrong 3 (guessS (2 ∷ 2 ∷ 1 ∷ []))
+    -- 4: a byte over, equal and falling keys, from the yard's and absent, command A, to own
+    ∷ wrong 4 (guessC (0 ∷ 0 ∷ 2 ∷ 1 ∷ []))
+    ∷ wrong 4 (guessC (0 ∷ 0 ∷ 2 ∷ 0 ∷ 0 ∷ 3 ∷ 1 ∷ 0 ∷ 3 ∷ []))
+    ∷ wrong 4 (guessC (1 ∷ 0 ∷ 2 ∷ 0 ∷ 1 ∷ 3 ∷ []))
+    ∷ wrong 4 (guessC (2 ∷ 0 ∷ 2 ∷ []))
+    ∷ wrong 4 (guessC (4 ∷ 0 ∷ 2 ∷ []))
+    ∷ wrong 4 (guessC (0 ∷ 2 ∷ 2 ∷ 1 ∷ 0 ∷ 2 ∷ []))
+    ∷ wrong 4 (guessC (0 ∷ 0 ∷ 1 ∷ 1 ∷ 0 ∷ 2 ∷ []))
+    -- 5: a byte over, equal and falling keys, from own, to the yard's and absent
+    ∷ wrong 5 (guessU (2 ∷ 0 ∷ 3 ∷ []))
+    ∷ wrong 5 (guessU (2 ∷ 0 ∷ 2 ∷ 0 ∷ 3 ∷ 0 ∷ []))
+    ∷ wrong 5 (guessU (3 ∷ 0 ∷ 2 ∷ 0 ∷ []))
+    ∷ wrong 5 (guessU (1 ∷ 0 ∷ 2 ∷ 0 ∷ 3 ∷ 0 ∷ []))
+    ∷ wrong 5 (guessU (2 ∷ 3 ∷ 3 ∷ 0 ∷ []))
+    ∷ wrong 5 (guessU (2 ∷ 4 ∷ 3 ∷ 0 ∷ []))
+    -- 6: an own position and one of the yard without a move
+    ∷ wrong 6 (guessC (0 ∷ 0 ∷ 2 ∷ []))
+    ∷ wrong 6 (guessU (2 ∷ 0 ∷ []))
+    -- 7: A 8, lag 6: 32 positions pass and 33 don't; 256 positions pass at lag 4 and don't at lag 6
+    ∷ right (star 31 6) (layout 0 8 6 32 93 2)
+    ∷ wrong 7 (star 32 6)
+    ∷ right (star 255 4) (layout 0 8 4 256 765 2)
+    ∷ wrong 7 (star 255 6)
+    -- two reasons: the first counts. 1 and 2, 2 and 3, 3 and 4, 4 and 5, 5 and 6, 6 and 7
+    ∷ wrong 1 (guessP (0 ∷ 0 ∷ 2 ∷ 4 ∷ []) ++ (0 ∷ []))
+    ∷ wrong 2 (sheetWith (0 ∷ 9 ∷ 1 ∷ []) (0 ∷ 0 ∷ 2 ∷ 4 ∷ []) [] [])
+    ∷ wrong 3 (sheetWith (0 ∷ 2 ∷ 7 ∷ []) (0 ∷ 2 ∷ []) (0 ∷ []) (1 ∷ 0 ∷ []))
+    ∷ wrong 4 (sheetWith (0 ∷ 2 ∷ 1 ∷ []) (0 ∷ 2 ∷ []) (0 ∷ 0 ∷ 0 ∷ []) (1 ∷ []))
+    ∷ wrong 5 (sheetWith (0 ∷ 2 ∷ 1 ∷ []) (0 ∷ 2 ∷ []) [] (1 ∷ 1 ∷ []))
+    ∷ wrong 6 (sheetWith (0 ∷ 8 ∷ 6 ∷ []) (replicate 33 0) [] [])
+    ∷ []

@@ -1,0 +1,20 @@
+// Document 01's numbers for game sheets, named once; specs/Limits.antt has them too.
+pub const MOST_POSITIONS: usize = 256;
+
+pub const MOST_ACTIONS: u8 = 8;
+
+pub const MOST_DELAY: u8 = 6;
+
+pub const MOST_MOVES: usize = 4096;
+
+pub const MOST_NODES: usize = 16384;
+
+// Where powers are cut off, far above the most nodes.
+pub const MOST_POWER: usize = 65536;
+
+// The grid of targets: a row for each position that there can be, a target for each action, and the mark of an absent one.
+pub const ROWS: usize = 256;
+
+pub const ROW: usize = 8;
+
+pub const ABSENT: u16 = 256;

@@ -1,0 +1,164 @@
+-- Demand 2 over bytes, as the customer reads it: for every sheet that solving accepts, the verdict, the masks and the ranks are those of
+-- the game that the sheet means, by Definition 5's strategies. `solve` is proved to give `solveAnswer`, `masksAfter` and `ranksLeft`
+-- (src/solve.rt); the rest is theory. Assumes nothing.
+use Prim.Native.Nat.{ℕ, suc, _+_, _-_, _≤_, _<_}
+use mathlib.Core.Path.{_≡_, sym, _∙_, ap}
+use mathlib.Core.Bool.{true, false}
+use mathlib.Core.List.{List, _++_, List·Memᴰ}
+use mathlib.Core.Logic.{_↔_}
+use native.Mathlib.Omega.{arith}
+use lib.ListN.{length, getD, drop, List·getD-append}
+use lib.Seq.{getD-append-add, getD-drop}
+use borrow.Author.Tests.{le-leb}
+use Rattle.theory.specs.Answer.{accepted, onAccepted}
+use Rattle.theory.specs.Game.{Game, Legal, Target, to}
+use Rattle.theory.specs.Strategy.{Winnable}
+use Rattle.theory.specs.Rounds.{fell, ranksAfter, finalRanks, masks, kept}
+use Rattle.theory.specs.Delay.{Verdict, wins, losing, arena, answer}
+use Rattle.theory.specs.Table.{bit, allows, ours}
+use Rattle.theory.proofs.Fold.{both-true}
+use Rattle.theory.proofs.Answer.{check-passed, check-accepted, accepted-on}
+use Rattle.theory.proofs.Rounds.{final-length, final-round}
+use Rattle.theory.proofs.Region.{Closed, kept-is, region-closed, region-largest, length-masks}
+use Rattle.theory.proofs.Tables.{step-legal}
+use Rattle.theory.proofs.Ours.{allows-keeps}
+use Rattle.theory.proofs.Waiting.{answer-iff, answer-least}
+use Rattle.sheet.specs.Reading.{delayOf, readAnswer}
+use Rattle.sheet.specs.Meant.{gameOf}
+use Rattle.sheet.specs.declared.reading.Layout.{Layout}
+use Rattle.sheet.proofs.Legality.{legal-game}
+use Rattle.solver.specs.Solving.{Solved, solveAnswer, solvedDelay, over, masksAfter, ranksLeft}
+
+-- a node that is kept: "of the right side that never falls"
+abbrev pub Kept : Game → ℕ → ℕ → Type 0
+Kept G d k = kept (arena G d) (finalRanks (arena G d)) k ≡ true
+
+-- S is a winning set: each of its nodes of the right side is safe and has an action all of whose outcomes are nodes of S
+abbrev pub WinningSet : Game → ℕ → (ℕ → Type 0) → Type 0
+WinningSet G d S = (k : ℕ) → k < arena G d .nodes → arena G d .right k ≡ true → S k → Closed (arena G d) S k
+
+-- every outcome of action c at node k is a node of S
+abbrev pub StaysIn : Game → ℕ → (ℕ → Type 0) → ℕ → ℕ → Type 0
+StaysIn G d S k c = (o : Target) → List·Memᴰ o (arena G d .step k c) → (k′ : ℕ) × (o ≡ to k′) × S k′
+
+-- node k falls in round n + 1: it stood after round n and has fallen after the next
+abbrev pub FallsIn : Game → ℕ → ℕ → ℕ → Type 0
+FallsIn G d n k = (fell (ranksAfter (arena G d) n) k ≡ false) × (fell (ranksAfter (arena G d) (suc n)) k ≡ true)
+
+-- m is the least delay at which no strategy wins, and at most the asked one
+pub record Least (G : Game) (asked m : ℕ) : Type 0 where
+  pub within : m ≤ asked
+  pub none : Winnable G m → ⊥
+  pub below : (j : ℕ) → j < m → Winnable G j
+
+-- the table and the ranks that two buffers hold for delay d
+pub record Table (G : Game) (d : ℕ) (mask-buffer rank-buffer masks-now ranks-now : List ℕ) : Type 1 where
+  -- the kept nodes are the largest winning set
+  pub kept-wins : WinningSet G d (Kept G d)
+  pub kept-largest : (S : ℕ → Type 0) → WinningSet G d S → (k : ℕ) → arena G d .right k ≡ true → S k → Kept G d k
+  -- a node's mask allows exactly the actions that stay in it
+  pub masks : (k c : ℕ) → k < arena G d .nodes → (bit (getD masks-now k 0) c ≡ true) ↔ (Kept G d k × (c < G .actions) × StaysIn G d (Kept G d) k c)
+  -- a fallen node's rank is its round
+  pub ranks : (n k : ℕ) → k < arena G d .nodes → (getD ranks-now k 0 ≡ suc n) ↔ FallsIn G d n k
+  -- entries beyond the nodes are as they came in
+  pub masks-beyond : (k : ℕ) → arena G d .nodes ≤ k → getD masks-now k 0 ≡ getD mask-buffer k 0
+  pub ranks-beyond : (k : ℕ) → arena G d .nodes ≤ k → getD ranks-now k 0 ≡ getD rank-buffer k 0
+
+pub record Demand2 (s : List ℕ) (a : Solved) (mask-buffer rank-buffer : List ℕ) : Type 1 where
+  pub winning : (a .verdict ≡ wins) ↔ Winnable (gameOf s) (delayOf s)
+  pub losing : (m : ℕ) → a .verdict ≡ losing m → Least (gameOf s) (delayOf s) m
+  -- for the asked delay where it wins, else for m
+  pub table : Table (gameOf s) (solvedDelay (delayOf s) (a .verdict)) mask-buffer rank-buffer (masksAfter s (accepted a) mask-buffer)
+      (ranksLeft s (accepted a) rank-buffer)
+
+-- reading a filled buffer
+
+over-front : (entries buffer : List ℕ) (k : ℕ) → k < length entries → getD (over entries buffer) k 0 ≡ getD entries k 0
+unfolding over
+over-front entries buffer k h = List·getD-append entries (drop (length entries) buffer) 0 k h
+
+over-beyond : (entries buffer : List ℕ) (k : ℕ) → length entries ≤ k → getD (over entries buffer) k 0 ≡ getD buffer k 0
+unfolding over
+over-beyond entries buffer k h =
+    let q : k ≡ length entries + (k - length entries) = omega arith in
+    ap (λ i. getD (entries ++ drop (length entries) buffer) i 0) q
+    ∙ getD-append-add entries (drop (length entries) buffer) (k - length entries) 0
+    ∙ getD-drop (length entries) buffer (k - length entries) 0
+    ∙ ap (λ i. getD buffer i 0) (sym q)
+
+module _ (G : Game) (legal : Legal G) (d : ℕ) (mask-buffer rank-buffer : List ℕ) where
+  region-wins : WinningSet G d (Kept G d)
+  region-wins k h r e =
+      let c = region-closed (arena G d) k h e in
+      record {
+        safe = c .safe;
+        action = c .action;
+        action-lt = c .action-lt;
+        inside =
+            λ o i.
+            let x = c .inside o i in
+            let l = step-legal G legal d k (c .action) (x .0) (rw (x .1) at i) in
+            (x .0, x .1, kept-is (arena G d) (finalRanks (arena G d)) (x .0) (l .1) (x .2));
+      }
+
+  mask-keeps : (k c : ℕ) → k < arena G d .nodes → (bit (getD (over (masks (arena G d)) mask-buffer) k 0) c ≡ true)
+      ↔ (Kept G d k × (c < G .actions) × StaysIn G d (Kept G d) k c)
+  unfolding allows ours
+  mask-keeps k c h =
+      let q = over-front (masks (arena G d)) mask-buffer k (rw (length-masks (arena G d)) h) in
+      let a = allows-keeps G legal d k c in (
+        λ e. let x = a .0 (rw q at e) in (x .kept, x .action, x .inside),
+        λ x. rw q (a .1 (record { node = h; kept = x .0; action = x .1; inside = x .2 })),
+      )
+
+  rank-round : (n k : ℕ) → k < arena G d .nodes → (getD (over (finalRanks (arena G d)) rank-buffer) k 0 ≡ suc n) ↔ FallsIn G d n k
+  rank-round n k h =
+      let q = over-front (finalRanks (arena G d)) rank-buffer k (rw (final-length (arena G d)) h) in
+      rw q (final-round (arena G d) n k)
+
+  table-is : Table G d mask-buffer rank-buffer (over (masks (arena G d)) mask-buffer) (over (finalRanks (arena G d)) rank-buffer)
+  table-is =
+      record {
+        kept-wins = region-wins;
+        kept-largest = λ S w k r e. kept-is (arena G d) (finalRanks (arena G d)) k r (region-largest (arena G d) S w k e);
+        masks = mask-keeps;
+        ranks = rank-round;
+        masks-beyond = λ k h. over-beyond (masks (arena G d)) mask-buffer k (rw (length-masks (arena G d)) h);
+        ranks-beyond = λ k h. over-beyond (finalRanks (arena G d)) rank-buffer k (rw (final-length (arena G d)) h);
+      }
+
+module _ (s mask-buffer rank-buffer : List ℕ) where
+  -- what an accepted answer says
+  accepted-is : (a : Solved) → solveAnswer s (length mask-buffer) (length rank-buffer) ≡ accepted a
+      → (l : Layout) × (readAnswer s ≡ accepted l) × (a .verdict ≡ answer (gameOf s) (delayOf s))
+  unfolding solveAnswer
+  accepted-is a e =
+      let x = accepted-on (readAnswer s) _ e in
+      let y = check-accepted _ 8 _ (x .2) in
+      (x .0, x .1, sym (same (y .1)))
+    where
+      same : {v : Verdict} {l : Layout} → accepted (record { verdict = v; layout = l }) ≡ accepted a → v ≡ a .verdict
+      same q = cc
+
+  -- the theorem
+  pub demand-2 : (a : Solved) → solveAnswer s (length mask-buffer) (length rank-buffer) ≡ accepted a → Demand2 s a mask-buffer rank-buffer
+  unfolding masksAfter ranksLeft
+  demand-2 a e =
+      let x = accepted-is a e in
+      let legal = legal-game s (x .0) (x .1) in
+      let i = answer-iff (gameOf s) legal (delayOf s) in
+      record {
+        winning = (λ v. i .0 (sym (x .2) ∙ v), λ w. x .2 ∙ i .1 w);
+        losing =
+            λ m v.
+            let l = answer-least (gameOf s) legal (delayOf s) m (sym (x .2) ∙ v) in
+            record { within = l .asked; none = l .none; below = l .least };
+        table = table-is (gameOf s) legal (solvedDelay (delayOf s) (a .verdict)) mask-buffer rank-buffer;
+      }
+
+  -- and every accepted sheet with large enough buffers is solved
+  pub solves : (l : Layout) → readAnswer s ≡ accepted l → arena (gameOf s) (delayOf s) .nodes ≤ length mask-buffer
+      → arena (gameOf s) (delayOf s) .nodes ≤ length rank-buffer
+      → solveAnswer s (length mask-buffer) (length rank-buffer) ≡ accepted (record { verdict = answer (gameOf s) (delayOf s); layout = l })
+  unfolding solveAnswer onAccepted
+  solves l e m k = rw e (check-passed _ 8 _ (both-true _ _ (le-leb _ _ m) (le-leb _ _ k)))

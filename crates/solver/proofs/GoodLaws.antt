@@ -1,0 +1,182 @@
+-- Good first words, as the code of src/words.rt finds them, and that they are theory's. Assumes nothing.
+use Prim.Native.Nat.{ℕ, _+_, _*_, _/_, _%_, _^_, _≤_, _<_}
+use mathlib.Core.Path.{_≡_, refl, sym, _∙_, ap, fun-ext}
+use mathlib.Core.Bool.{Bool, true, false, not}
+use mathlib.Core.List.{List}
+use native.Mathlib.Omega.{arith}
+use native.Mathlib.Nat.{mul-le-mul, mod-lt}
+use mir.Val.{Fits}
+use mir.Syntax.{w64}
+use lib.Dec.{eqb}
+use lib.ListN.{length, getD, List·getD-eq-default}
+use borrow.Author.Needs.{needs}
+use borrow.Author.Tests.{not-true, not-false}
+use Rattle.theory.specs.Fold.{both, anyBelow}
+use Rattle.theory.specs.Game.{Game}
+use Rattle.theory.specs.Rounds.{fell, finalRanks, kept}
+use Rattle.theory.specs.Delay.{odd, words, onRight, arena, keptAt, goodBy, goodFrom, goodWith, winning, initialWords}
+use Rattle.theory.proofs.Fold.{both-true, any-none, any-holds, any-again, any-done}
+use Rattle.sheet.specs.Kinds.{safeAt}
+use Rattle.sheet.specs.Meant.{unmark}
+use Rattle.solver.specs.declared.level.Level.{Level}
+use Rattle.solver.specs.View.{cellAt, viewOf, levelArena, arenaOf, Sized, levelAt}
+use Rattle.solver.specs.Strikes.{rightAt, keptIn, goodOn, goodIn, wordsOn, firstWords}
+use Rattle.solver.proofs.More.{both-none, both-second, product-small, product-fits, sum-fits}
+use Rattle.solver.proofs.WalkLaws.{unmark-absent, unmark-to}
+use Rattle.solver.proofs.LevelLaws.{arena-is, words-is}
+
+-- kept nodes: r is the answer on the side
+
+module _ (p : List ℕ) (l : Level) (ranks : List ℕ) (k : ℕ) {r : Bool} (e : r ≡ rightAt (l .odd) p (k / l .power)) where
+  pub kept-wrong : not r ≡ true → false ≡ keptIn p l ranks k
+  unfolding keptIn
+  kept-wrong n = sym (both-none _ _ (sym e ∙ not-true r n))
+
+  pub kept-past : not r ≡ false → length ranks ≤ k → true ≡ keptIn p l ranks k
+  unfolding keptIn fell
+  kept-past n h = sym (both-true _ _ (sym e ∙ not-false r n) (rw (List·getD-eq-default ranks 0 h)))
+
+  pub kept-rank : not r ≡ false → eqb (getD ranks k 0) 0 ≡ keptIn p l ranks k
+  unfolding keptIn fell
+  kept-rank n = sym (both-second _ _ (sym e ∙ not-false r n) ∙ twice (eqb (getD ranks k 0) 0))
+    where
+      twice : (b : Bool) → not (not b) ≡ b
+      twice true = refl
+      twice false = refl
+
+pub ruleset keeping = (needs, kept-wrong, kept-past, kept-rank)
+
+-- first words
+
+pub words-odd : (l : Level) → l .odd ≡ true → l .power * l .actions ≡ firstWords l
+unfolding firstWords wordsOn
+words-odd l e = rw e
+
+pub words-even : (l : Level) → l .odd ≡ false → l .power ≡ firstWords l
+unfolding firstWords wordsOn
+words-even l e = rw e
+
+pub few-words-fit : {w a : ℕ} → w < 65536 → a < 256 → Fits w64 (w * a)
+few-words-fit {w} {a} h k = record { fits = omega (arith, product-small {a = w} {b = a} (omega arith) (omega arith)) }
+
+pub ruleset counting = (needs, words-odd, words-even, few-words-fit)
+
+pub first-words-few : {m : ℕ} {l : Level} → Sized m l → firstWords l ≤ 131072
+unfolding firstWords wordsOn
+first-words-few {m} {l} s = by (l .odd)
+  where
+    by : (b : Bool) → wordsOn b l ≤ 131072
+    by true = mul-le-mul (s .few-words) (s .few-actions)
+    by false = let h = s .few-words in omega arith
+
+-- a node number fits a word
+
+pub node-fits : {m q : ℕ} {l : Level} → Sized m l → q < 65536 → Fits w64 (q * l .power)
+node-fits s h = let f = s .few-words in product-fits (omega arith) (omega arith)
+
+pub even-fits : {m q v : ℕ} {l : Level} → Sized m l → q < 65536 → v < firstWords l → Fits w64 (q * l .power + v)
+even-fits s h k = let f = s .few-words in let g = first-words-few s in sum-fits (omega arith) (omega arith) (omega arith)
+
+pub odd-fits : {m q : ℕ} (v : ℕ) {l : Level} → Sized m l → q < 65536 → Fits w64 (q * l .power + v % l .power)
+odd-fits v s h =
+    let f = s .few-words in
+    let r = mod-lt v (s .some-word) in
+    sum-fits (omega arith) (omega arith) (omega arith)
+
+module _ (p : List ℕ) (g : List (List ℕ)) (l : Level) (ranks : List ℕ) (v : ℕ) where
+  by-parity : {b : Bool} → l .odd ≡ b → goodIn p g l ranks v ≡ goodOn b p g l ranks v
+  unfolding goodIn
+  by-parity e = ap (λ b. goodOn b p g l ranks v) e
+
+  pub good-even : {r : Bool} → not (l .odd) ≡ true → r ≡ keptIn p l ranks (l .start * l .power + v) → r ≡ goodIn p g l ranks v
+  unfolding goodOn
+  good-even n e = e ∙ sym (by-parity (not-true (l .odd) n))
+
+  module _ {s : Bool} (n : not (l .odd) ≡ false) (e : s ≡ safeAt p (l .start)) where
+    pub good-unsafe : not s ≡ true → false ≡ goodIn p g l ranks v
+    unfolding goodOn
+    good-unsafe x = sym (by-parity (not-false (l .odd) n) ∙ both-none _ _ (sym e ∙ not-true s x))
+
+    module _ (t : ℕ) (x : not s ≡ false) (c : unmark t ≡ cellAt g (l .start) (v / l .power)) where
+      reached : goodIn p g l ranks v ≡ keptAt (keptIn p l ranks) (l .power) (v % l .power) (unmark t)
+      unfolding goodOn
+      reached =
+          by-parity (not-false (l .odd) n)
+          ∙ both-second _ _ (sym e ∙ not-false s x)
+          ∙ ap (keptAt (keptIn p l ranks) (l .power) (v % l .power)) (sym c)
+
+      pub good-absent : t ≡ 256 → false ≡ goodIn p g l ranks v
+      unfolding keptAt
+      good-absent z = sym (reached ∙ ap (keptAt (keptIn p l ranks) (l .power) (v % l .power)) (unmark-absent z))
+
+      pub good-odd : {r : Bool} → (t ≡ 256 → ⊥) → r ≡ keptIn p l ranks (t * l .power + v % l .power) → r ≡ goodIn p g l ranks v
+      unfolding keptAt
+      good-odd z f = f ∙ sym (reached ∙ ap (keptAt (keptIn p l ranks) (l .power) (v % l .power)) (unmark-to z))
+
+pub ruleset goodness = (needs, node-fits, even-fits, odd-fits, good-even, good-unsafe, good-absent, good-odd)
+
+-- a search for a good word
+
+module _ (p : List ℕ) (g : List (List ℕ)) (l : Level) (ranks : List ℕ) where
+  abbrev good : ℕ → Bool
+  good = goodIn p g l ranks
+
+  pub good-found : {v n : ℕ} {r : Bool} → n ≡ firstWords l → v < n → r ≡ good v → r ≡ true → true ≡ anyBelow good (firstWords l)
+  good-found {v} {n} e h q t = sym (any-holds good v (firstWords l) (rw e at h) (sym q ∙ t))
+
+  pub good-again : (v : ℕ) {r : Bool} → anyBelow good v ≡ false → r ≡ good v → r ≡ false → anyBelow good (v + 1) ≡ false
+  good-again v a q t = any-again good v a q t
+
+  pub good-none : {v n : ℕ} → n ≡ firstWords l → v ≤ n → n ≤ v → anyBelow good v ≡ false → false ≡ anyBelow good (firstWords l)
+  good-none {v} {n} e h k a = sym (any-done good (rw e at h) (rw e at k) a)
+
+  pub good-start : anyBelow good 0 ≡ false
+  good-start = any-none good
+
+  pub good-word : {v n : ℕ} → n ≡ firstWords l → v < n → v < firstWords l
+  good-word e h = rw e at h
+
+pub ruleset searching = (needs, good-found, good-again, good-none, good-start, good-word)
+
+-- the arrays' kept nodes and good words are those of their game
+
+right-is : (p : List ℕ) (g : List (List ℕ)) (u f : List ℕ) (s a q : ℕ) (b : Bool) → rightAt b p q ≡ onRight b (viewOf p g u f s a) q
+unfolding rightAt onRight viewOf
+right-is p g u f s a q true = refl
+right-is p g u f s a q false = refl
+
+pub kept-is : (p : List ℕ) (g : List (List ℕ)) (u f : List ℕ) (l : Level) (ranks : List ℕ) (k : ℕ)
+    → keptIn p l ranks k ≡ kept (arenaOf p g u f l) ranks k
+unfolding keptIn kept arenaOf levelArena
+kept-is p g u f l ranks k =
+    ap (λ b. both b (not (fell ranks k))) (right-is p g u f (l .start) (l .actions) (k / l .power) (l .odd))
+
+good-on-is : (p : List ℕ) (g : List (List ℕ)) (u f : List ℕ) (l : Level) (ranks : List ℕ) (v : ℕ) (b : Bool)
+    → goodOn b p g l ranks v ≡ goodBy b (viewOf p g u f (l .start) (l .actions)) (l .power) (keptIn p l ranks) v
+unfolding goodOn goodBy viewOf
+good-on-is p g u f l ranks v true = refl
+good-on-is p g u f l ranks v false = refl
+
+module _ (p : List ℕ) (g : List (List ℕ)) (u f : List ℕ) (start actions d : ℕ) where
+  abbrev level : Level
+  level = levelAt (length p) start actions d
+
+  abbrev game : Game
+  game = viewOf p g u f start actions
+
+  pub good-is : (ranks : List ℕ) (v : ℕ) → goodIn p g level ranks v ≡ goodWith game d ranks v
+  unfolding goodIn goodWith goodFrom words viewOf
+  good-is ranks v =
+      good-on-is p g u f level ranks v (odd d)
+      ∙ ap
+      (λ (keeps : ℕ → Bool). goodBy (odd d) game (actions ^ (d / 2)) keeps v)
+      (fun-ext (kept-is p g u f level ranks) ∙ ap (λ E. kept E ranks) (arena-is p g u f start actions d))
+
+  pub winning-is : {ranks : List ℕ} {r : Bool} → ranks ≡ finalRanks (arena game d)
+      → r ≡ anyBelow (goodIn p g level ranks) (firstWords level) → r ≡ winning game d
+  unfolding winning
+  winning-is {ranks} {r} e q =
+      q
+      ∙ ap (λ (test : ℕ → Bool). anyBelow test (firstWords level)) (fun-ext (good-is ranks))
+      ∙ ap (anyBelow (goodWith game d ranks)) (words-is p g u f start actions d)
+      ∙ ap (λ l. anyBelow (goodWith game d l) (initialWords game d)) e

@@ -1,0 +1,133 @@
+-- The masks, as the code of src/masks.rt makes them, and that they are theory's. Assumes nothing.
+use Prim.Native.Nat.{ℕ, _+_, _*_, _^_, _≤_, _<_}
+use mathlib.Core.Path.{_≡_, refl, sym, _∙_, ap, fun-ext}
+use mathlib.Core.Bool.{Bool, true, false, not, cond}
+use mathlib.Core.Logic.{⊎-elim}
+use mathlib.Core.List.{List}
+use native.Mathlib.Omega.{arith}
+use native.Mathlib.Nat.{pow-suc}
+use native.Mathlib.Numerals.{add-one}
+use mir.Val.{Fits}
+use mir.Syntax.{w8, w64}
+use lib.Pow.{pow-mono}
+use lib.ListN.{length, getD, set}
+use borrow.Author.Needs.{needs}
+use borrow.Author.Tests.{eq-eqb, ne-eqb, lt-ltb, le-ltb, le-leb, not-true, not-false}
+use Rattle.theory.specs.Fold.{tabulate}
+use Rattle.theory.specs.Rounds.{Arena, spoiltBy, fell, maskBelow, maskAt, masksBy}
+use Rattle.theory.proofs.Fold.{below?}
+use Rattle.theory.proofs.Masks.{mask-lt}
+use Rattle.solver.specs.declared.level.Level.{Level}
+use Rattle.solver.specs.View.{viewOf, levelArena, arenaOf, Sized}
+use Rattle.solver.specs.Walks.{fallenBy, allowedIn}
+use Rattle.solver.specs.Strikes.{keptIn, AtMost}
+use Rattle.solver.proofs.More.{both-none, both-second}
+use Rattle.solver.proofs.Filling.{filled, filled-none, filled-more, filled-done}
+use Rattle.solver.proofs.GoodLaws.{kept-is}
+
+-- where no rank is over n, fallen in rounds 1 to n is fallen
+pub fallen-fell : (n : ℕ) (ranks : List ℕ) → AtMost n ranks → (k : ℕ) → fallenBy n ranks k ≡ fell ranks k
+unfolding fallenBy fell
+fallen-fell n ranks most k =
+    ⊎-elim
+    (λ (h : getD ranks k 0 < 1). both-none _ _ (le-ltb 0 (getD ranks k 0) (omega arith)) ∙ sym (ap not (eq-eqb (getD ranks k 0) 0 (omega arith))))
+    (λ (h : 1 ≤ getD ranks k 0).
+    both-second _ _ (lt-ltb 0 (getD ranks k 0) (omega arith))
+    ∙ le-leb (getD ranks k 0) n (most k)
+    ∙ sym (ap not (ne-eqb (getD ranks k 0) 0 (λ z. omega arith))))
+    (below? (getD ranks k 0) 1)
+
+pub bit-first : 1 ≡ 2 ^ 0
+bit-first = refl
+
+pub bit-next : (c : ℕ) {b : ℕ} → b ≡ 2 ^ c → b * 2 ≡ 2 ^ (c + 1)
+bit-next c {b} e = rw (add-one c, pow-suc 2 c, e)
+
+pub bit-small : (c : ℕ) {b : ℕ} → b ≡ 2 ^ c → c ≤ 8 → b ≤ 256
+bit-small c e h = rw e (pow-mono h)
+
+pub bit-fits : (c a : ℕ) {b : ℕ} → b ≡ 2 ^ c → c < a → a ≤ 8 → Fits w64 (b * 2)
+bit-fits c a q h l = let r = bit-small c q (omega arith) in record { fits = omega arith }
+
+-- the bits of the first c actions
+unfoldable pub allowedBelow : Arena → ℕ → List ℕ → ℕ → ℕ → ℕ
+allowedBelow E n ranks k c = maskBelow (λ a. not (spoiltBy E (fallenBy n ranks) k a)) c
+
+module _ (E : Arena) (n : ℕ) (ranks : List ℕ) (k : ℕ) where
+  pub bits-start : 0 ≡ allowedBelow E n ranks k 0
+  unfolding allowedBelow maskBelow
+  bits-start = refl
+
+  bits-suc : (c : ℕ) → allowedBelow E n ranks k (c + 1) ≡ allowedBelow E n ranks k c + cond (not (spoiltBy E (fallenBy n ranks) k c)) (2 ^ c) 0
+  unfolding allowedBelow maskBelow
+  bits-suc c = rw (add-one c)
+
+  -- an action that is not spoilt adds its bit b
+  pub bits-set : (c : ℕ) {m b s : ℕ} {r : Bool} → s ≡ m + b → m ≡ allowedBelow E n ranks k c → b ≡ 2 ^ c
+      → r ≡ spoiltBy E (fallenBy n ranks) k c → not r ≡ true → s ≡ allowedBelow E n ranks k (c + 1)
+  bits-set c {m} {b} {s} {r} i e q f x = i ∙ sym (bits-suc c ∙ rw (← f, x, ← e, ← q))
+
+  pub bits-kept : (c : ℕ) {m s : ℕ} {r : Bool} → s ≡ m → m ≡ allowedBelow E n ranks k c → r ≡ spoiltBy E (fallenBy n ranks) k c
+      → not r ≡ false → s ≡ allowedBelow E n ranks k (c + 1)
+  bits-kept c {m} {s} {r} i e f x = let z : m + 0 ≡ m = omega arith in i ∙ sym (bits-suc c ∙ rw (← f, x, ← e, z))
+
+  pub bits-small : (c : ℕ) {m : ℕ} → m ≡ allowedBelow E n ranks k c → c ≤ 8 → m < 256
+  unfolding allowedBelow
+  bits-small c {m} e h =
+      let p : 2 ^ c ≤ 256 = pow-mono h in
+      omega (arith, mask-lt (λ a. not (spoiltBy E (fallenBy n ranks) k a)) c)
+
+  -- sums and the byte fit
+
+  pub add-fits : (c a : ℕ) {m b : ℕ} → m ≡ allowedBelow E n ranks k c → b ≡ 2 ^ c → c < a → a ≤ 8 → Fits w64 (m + b)
+  add-fits c a {m} {b} e q h l =
+      let p = bits-small c e (omega arith) in
+      let r = bit-small c q (omega arith) in
+      record { fits = omega arith }
+
+  pub mask-fits : (c a : ℕ) {m : ℕ} → m ≡ allowedBelow E n ranks k c → c ≤ a → a ≤ 8 → Fits w8 m
+  mask-fits c a e h l = let p = bits-small c e (omega arith) in record { fits = omega arith }
+
+module _ (p : List ℕ) (g : List (List ℕ)) (u f : List ℕ) (l : Level) (n : ℕ) (ranks : List ℕ) (k : ℕ) where
+  abbrev here : Arena
+  here = arenaOf p g u f l
+
+  pub bits-done : (c : ℕ) {m : ℕ} → c ≤ l .actions → l .actions ≤ c → m ≡ allowedBelow here n ranks k c → m ≡ allowedIn here n ranks k
+  unfolding allowedBelow allowedIn arenaOf levelArena viewOf
+  bits-done c {m} h j e = let q : c ≡ l .actions = omega arith in rw q at e
+
+  pub mask-lost : {r : Bool} → r ≡ keptIn p l ranks k → not r ≡ true → 0 ≡ maskAt here ranks k
+  unfolding maskAt
+  mask-lost {r} e x = rw (← kept-is p g u f l ranks k, ← e, not-true r x)
+
+  pub mask-stands : {r : Bool} {m : ℕ} → r ≡ keptIn p l ranks k → not r ≡ false → AtMost n ranks → m ≡ allowedIn here n ranks k
+      → m ≡ maskAt here ranks k
+  unfolding maskAt allowedIn
+  mask-stands {r} {m} e x most q =
+      q
+      ∙ ap (λ (t : ℕ → Bool). maskBelow (λ c. not (spoiltBy here t k c)) (here .actions)) (fun-ext (fallen-fell n ranks most))
+      ∙ rw (← kept-is p g u f l ranks k, ← e, not-false r x)
+
+pub ruleset bits = (needs, bits-start, bits-set, bits-kept, bit-first, bit-next, bits-done, add-fits, bit-fits, mask-fits)
+
+pub ruleset a-mask = (needs, mask-lost, mask-stands)
+
+-- the loop over the nodes
+
+module _ (p : List ℕ) (g : List (List ℕ)) (u f : List ℕ) (l : Level) (ranks before : List ℕ) where
+  abbrev entry : ℕ → ℕ
+  entry = maskAt (arenaOf p g u f l) ranks
+
+  pub masks-start : before ≡ filled entry 0 before
+  masks-start = filled-none entry before
+
+  pub masks-again : (k : ℕ) {m : List ℕ} {v : ℕ} → m ≡ filled entry k before → length before ≡ l .nodes → k < l .nodes → v ≡ entry k
+      → set m k v ≡ filled entry (k + 1) before
+  masks-again k e n h q = filled-more entry before k e (omega arith) q
+
+  pub masks-done : (k : ℕ) {m : List ℕ} → Sized (length p) l → m ≡ filled entry k before → length before ≡ l .nodes → k ≤ l .nodes → l .nodes ≤ k
+      → m ≡ masksBy (arenaOf p g u f l) ranks
+  unfolding masksBy arenaOf levelArena viewOf
+  masks-done k s e n h j = filled-done entry before k (l .nodes) e n h j ∙ ap (tabulate entry 0) (s .all-nodes)
+
+pub ruleset all-masks = (needs, masks-start, masks-again, masks-done)

@@ -1,0 +1,378 @@
+-- One round in place, and all rounds (specs/Strikes.antt). A node struck in a round counts as fallen only in the next, since its
+-- rank is over n; so the half-updated list and the list at the round's start say the same. Assumes nothing.
+use Prim.Native.Nat.{ℕ, zero, suc, _+_, _*_, _/_, _≤_, _<_}
+use mathlib.Core.Path.{_≡_, refl, sym, _∙_, ap, fun-ext}
+use mathlib.Core.Bool.{Bool, true, false, not}
+use mathlib.Core.List.{List}
+use mathlib.Core.Logic.{_⊎_, ⊎-elim}
+use native.Mathlib.Omega.{arith}
+use native.Mathlib.Numerals.{add-one}
+use lib.Dec.{eqb, ltb, leb}
+use lib.ListN.{length, getD, set}
+use lib.Seq.{ext-getD}
+use borrow.Author.Needs.{needs}
+use borrow.Author.Tests.{eq-eqb, ne-eqb, lt-ltb, le-ltb, le-leb, lt-leb, not-true, not-false}
+use Rattle.theory.specs.Fold.{both, allBelow, anyBelow, tabulate}
+use Rattle.theory.specs.Rounds.{Arena, spoiltBy, fell, falls, rankIn, ranksAfter, finalRanks}
+use Rattle.theory.specs.Delay.{onRight}
+use Rattle.theory.proofs.Fold.{bool, below?, both-true, both-left, both-right, both-false, any-none, any-suc, either-right, tabulate-same, length-tabulate, getD-tabulate, any-below-none, any-some, not-both, count, count-le, count-less}
+use Rattle.theory.proofs.Rounds.{rank-zero, rank-le, length-after, stays-fallen, fell-true, fell-false, stood-rank, in-fallen, in-struck, in-stands, after-suc, final-is}
+use Rattle.sheet.specs.Kinds.{controllerAt, safeAt}
+use Rattle.solver.specs.declared.level.Level.{Level}
+use Rattle.solver.specs.View.{viewOf, levelArena, arenaOf}
+use Rattle.solver.specs.Walks.{fallenBy}
+use Rattle.solver.specs.Strikes.{rightAt, firstRank, struckBy, strikes, nextRanks, AtMost}
+use Rattle.solver.proofs.More.{both-none, both-second, either-first, not-not}
+use Rattle.solver.proofs.Filling.{filled, filled-none, filled-more, filled-keep, filled-done, filled-below, filled-above}
+
+-- sides
+
+pub right-odd : (p : List ℕ) (q : ℕ) {r o : Bool} → o ≡ true → r ≡ controllerAt p q → not r ≡ rightAt o p q
+unfolding rightAt
+right-odd p q e f = rw (e, f)
+
+pub right-even : (p : List ℕ) (q : ℕ) {r o : Bool} → o ≡ false → r ≡ controllerAt p q → r ≡ rightAt o p q
+unfolding rightAt
+right-even p q e f = rw (e, f)
+
+pub ruleset sides = (needs, right-odd, right-even)
+
+-- round 1
+
+module _ (p : List ℕ) (l : Level) (k : ℕ) where
+  pub first-wrong : {r : Bool} → r ≡ rightAt (l .odd) p (k / l .power) → not r ≡ true → 0 ≡ firstRank p l k
+  unfolding firstRank both
+  first-wrong {r} e n = rw (← e, not-true r n)
+
+  pub first-safe : {r s : Bool} → r ≡ rightAt (l .odd) p (k / l .power) → not r ≡ false → s ≡ safeAt p (k / l .power) → s ≡ true
+      → 0 ≡ firstRank p l k
+  unfolding firstRank both
+  first-safe {r} e n f t = rw (← e, not-false r n, ← f, t)
+
+  pub first-unsafe : {r s : Bool} → r ≡ rightAt (l .odd) p (k / l .power) → not r ≡ false → s ≡ safeAt p (k / l .power) → s ≡ false
+      → 1 ≡ firstRank p l k
+  unfolding firstRank both
+  first-unsafe {r} e n f t = rw (← e, not-false r n, ← f, t)
+
+pub ruleset firstly = (needs, first-wrong, first-safe, first-unsafe)
+
+pub ruleset filling = (needs, filled-none, filled-more, filled-done)
+
+-- the arena of the arrays
+
+side-is : (p : List ℕ) (g : List (List ℕ)) (u f : List ℕ) (l : Level) (o : Bool) (q : ℕ)
+    → onRight o (viewOf p g u f (l .start) (l .actions)) q ≡ rightAt o p q
+unfolding onRight rightAt viewOf
+side-is p g u f l true q = refl
+side-is p g u f l false q = refl
+
+actions-of : (p : List ℕ) (g : List (List ℕ)) (u f : List ℕ) (l : Level) → arenaOf p g u f l .actions ≡ l .actions
+unfolding arenaOf levelArena viewOf
+actions-of p g u f l = refl
+
+module _ (p : List ℕ) (g : List (List ℕ)) (u f : List ℕ) (l : Level) where
+  pub right-is : (k : ℕ) → arenaOf p g u f l .right k ≡ rightAt (l .odd) p (k / l .power)
+  unfolding arenaOf levelArena viewOf
+  right-is k = side-is p g u f l (l .odd) (k / l .power)
+
+  pub struck-fallen : (n k : ℕ) (ranks : List ℕ) → (getD ranks k 0 ≡ 0 → ⊥) → false ≡ struckBy (arenaOf p g u f l) n ranks k
+  unfolding struckBy
+  struck-fallen n k ranks z = sym (both-none _ _ (ne-eqb (getD ranks k 0) 0 z))
+
+  pub struck-wrong : (n k : ℕ) (ranks : List ℕ) {r : Bool} → r ≡ rightAt (l .odd) p (k / l .power) → not r ≡ true
+      → false ≡ struckBy (arenaOf p g u f l) n ranks k
+  unfolding struckBy
+  struck-wrong n k ranks {r} e z = sym (both-false _ _ (both-none _ _ (right-is k ∙ sym e ∙ not-true r z)))
+
+  pub struck-doomed : (n k : ℕ) (ranks : List ℕ) {m : ℕ} {r d : Bool} → m ≡ getD ranks k 0 → m ≡ 0 → r ≡ rightAt (l .odd) p (k / l .power)
+      → not r ≡ false → d ≡ allBelow (spoiltBy (arenaOf p g u f l) (fallenBy n ranks) k) (l .actions)
+      → d ≡ struckBy (arenaOf p g u f l) n ranks k
+  unfolding struckBy
+  struck-doomed n k ranks {m} {r} {d} e z q s a =
+      a
+      ∙ actions-are
+      ∙ sym (both-second _ _ (eq-eqb _ 0 (sym e ∙ z)) ∙ both-second _ _ (right-is k ∙ sym q ∙ not-false r s))
+    where
+      actions-are : allBelow (spoiltBy (arenaOf p g u f l) (fallenBy n ranks) k) (l .actions)
+          ≡ allBelow (spoiltBy (arenaOf p g u f l) (fallenBy n ranks) k) (arenaOf p g u f l .actions)
+      actions-are = ap (allBelow (spoiltBy (arenaOf p g u f l) (fallenBy n ranks) k)) (sym (actions-of p g u f l))
+
+pub ruleset striking = (needs, struck-fallen, struck-wrong, struck-doomed)
+
+-- one round: n of them are over, and the first k nodes of the next are done
+
+-- a rank of 1 to n
+unfoldable within : ℕ → ℕ → Bool
+within n r = both (ltb 0 r) (leb r n)
+
+within-zero : (n r : ℕ) → r ≡ 0 → within n r ≡ false
+unfolding within
+within-zero n r z = both-none _ _ (le-ltb 0 r (omega arith))
+
+within-over : (n r : ℕ) → n < r → within n r ≡ false
+unfolding within
+within-over n r h = both-false (ltb 0 r) _ (lt-leb r n h)
+
+within-some : (n r : ℕ) → 0 < r → r ≤ n → within n r ≡ true
+unfolding within
+within-some n r h k = both-true _ _ (lt-ltb 0 r h) (le-leb r n k)
+
+fallen-is : (n : ℕ) (marks : List ℕ) (k : ℕ) → fallenBy n marks k ≡ within n (getD marks k 0)
+unfolding fallenBy within
+fallen-is n marks k = refl
+
+-- with no rank over n, what has fallen has a rank
+pub fallen-all : (n : ℕ) (ranks : List ℕ) → AtMost n ranks → fallenBy n ranks ≡ fell ranks
+fallen-all n ranks most =
+    fun-ext
+    (λ k.
+    fallen-is n ranks k
+    ∙ ⊎-elim
+    (λ (h : 0 < getD ranks k 0). within-some n _ h (most k) ∙ sym (fell-true ranks k h))
+    (λ (h : getD ranks k 0 ≤ 0). within-zero n _ (omega arith) ∙ sym (fell-false ranks k (omega arith)))
+    (below? 0 (getD ranks k 0)))
+
+stands-is : (ranks : List ℕ) (k : ℕ) → eqb (getD ranks k 0) 0 ≡ not (fell ranks k)
+unfolding fell
+stands-is ranks k = sym (not-not (eqb (getD ranks k 0) 0))
+
+falls-later : (E : Arena) (n : ℕ) (old : List ℕ) (k : ℕ) → 1 ≤ n → falls E n old k ≡ allBelow (spoiltBy E (fell old) k) (E .actions)
+unfolding falls
+falls-later E zero old k h = absurd (omega arith)
+falls-later E (suc n) old k h = refl
+
+module _ (E : Arena) (n : ℕ) (old : List ℕ) where
+  -- a rank of the round under way is an old one or over n
+  rank-within : (k : ℕ) → within n (rankIn E n old k) ≡ within n (getD old k 0)
+  rank-within k =
+      ⊎-elim
+      (λ (e : fell old k ≡ true). ap (within n) (in-fallen E n old k e))
+      (λ (e : fell old k ≡ false).
+      let z = within-zero n (getD old k 0) (stood-rank old k e) in
+      ⊎-elim
+      (λ (s : both (E .right k) (falls E n old k) ≡ true).
+      let q = in-struck E n old k e (both-left _ _ s) (both-right _ _ s) in
+      within-over n (rankIn E n old k) (omega arith) ∙ sym z)
+      (λ (s : both (E .right k) (falls E n old k) ≡ false).
+      within-zero n (rankIn E n old k) (in-stands E n old k e s) ∙ sym z)
+      (bool (both (E .right k) (falls E n old k))))
+      (bool (fell old k))
+
+  fallen-now : (k : ℕ) → fallenBy n (filled (rankIn E n old) k old) ≡ fallenBy n old
+  fallen-now k =
+      fun-ext
+      (λ j.
+      fallen-is n (filled (rankIn E n old) k old) j
+      ∙ ⊎-elim
+      (λ (h : j < k). ap (within n) (filled-below (rankIn E n old) old k j h) ∙ rank-within j)
+      (λ (h : k ≤ j). ap (within n) (filled-above (rankIn E n old) old k j h))
+      (below? j k)
+      ∙ sym (fallen-is n old j))
+
+  -- the half-updated list strikes what the old one does
+  struck-now : (k : ℕ) → AtMost n old → 1 ≤ n → struckBy E n (filled (rankIn E n old) k old) k ≡ strikes E n old k
+  unfolding struckBy strikes
+  struck-now k most some =
+      rw (
+        filled-above (rankIn E n old) old k k (omega arith),
+        stands-is old k,
+        fallen-now k ∙ fallen-all n old most,
+        ← falls-later E n old k some,
+      )
+
+  -- a struck node gets the round's rank, another keeps its own
+
+  rank-struck : (k : ℕ) → strikes E n old k ≡ true → n + 1 ≡ rankIn E n old k
+  unfolding strikes
+  rank-struck k e =
+      let r = both-right (not (fell old k)) _ e in
+      add-one n ∙ sym (in-struck E n old k (not-true (fell old k) (both-left _ _ e)) (both-left _ _ r) (both-right (E .right k) _ r))
+
+  rank-kept : (k : ℕ) → strikes E n old k ≡ false → getD old k 0 ≡ rankIn E n old k
+  unfolding strikes
+  rank-kept k e =
+      ⊎-elim
+      (λ (f : fell old k ≡ true). sym (in-fallen E n old k f))
+      (λ (f : fell old k ≡ false).
+      let b : both (E .right k) (falls E n old k) ≡ false = sym (both-second (not (fell old k)) _ (ap not f)) ∙ e in
+      stood-rank old k f ∙ sym (in-stands E n old k f b))
+      (bool (fell old k))
+
+  module _ (k : ℕ) {now : List ℕ} {r : Bool} (most : AtMost n old) (some : 1 ≤ n) (e : now ≡ filled (rankIn E n old) k old) (s : r ≡ struckBy E n now k) where
+    struck-old : r ≡ strikes E n old k
+    struck-old = s ∙ ap (λ (l : List ℕ). struckBy E n l k) e ∙ struck-now k most some
+
+    pub round-struck : r ≡ true → k < length old → set now k (n + 1) ≡ filled (rankIn E n old) (k + 1) old
+    round-struck t h = filled-more (rankIn E n old) old k e h (rank-struck k (sym struck-old ∙ t))
+
+    pub round-kept : r ≡ false → k < length old → now ≡ filled (rankIn E n old) (k + 1) old
+    round-kept t h = filled-keep (rankIn E n old) old k e h (rank-kept k (sym struck-old ∙ t))
+
+    pub any-struck : r ≡ true → true ≡ anyBelow (strikes E n old) (k + 1)
+    any-struck t = sym (rw (add-one k, any-suc (strikes E n old) k) (either-right _ _ (sym struck-old ∙ t)))
+
+    pub any-kept : {any : Bool} → any ≡ anyBelow (strikes E n old) k → r ≡ false → any ≡ anyBelow (strikes E n old) (k + 1)
+    any-kept {any} a t =
+        a ∙ sym (rw (add-one k, any-suc (strikes E n old) k) (either-first _ _ (sym struck-old ∙ t)))
+
+nodes-of : (p : List ℕ) (g : List (List ℕ)) (u f : List ℕ) (l : Level) → arenaOf p g u f l .nodes ≡ length p * l .power
+unfolding arenaOf levelArena viewOf
+nodes-of p g u f l = refl
+
+pub round-done : (p : List ℕ) (g : List (List ℕ)) (u f : List ℕ) (l : Level) (n k : ℕ) (old : List ℕ) {m : List ℕ}
+    → m ≡ filled (rankIn (arenaOf p g u f l) n old) k old → length old ≡ l .nodes → k ≤ l .nodes → l .nodes ≤ k
+    → l .nodes ≡ length p * l .power → m ≡ nextRanks (arenaOf p g u f l) n old
+unfolding nextRanks
+round-done p g u f l n k old e h a b s =
+    let q : l .nodes ≡ arenaOf p g u f l .nodes = s ∙ sym (nodes-of p g u f l) in
+    filled-done (rankIn (arenaOf p g u f l) n old) old k (arenaOf p g u f l .nodes) e (h ∙ q) (rw q at a) (rw q at b)
+
+pub any-over : (t : ℕ → Bool) {k n : ℕ} {any : Bool} → any ≡ anyBelow t k → k ≤ n → n ≤ k → any ≡ anyBelow t n
+any-over t {k} {n} e a b = let q : k ≡ n = omega arith in e ∙ ap (anyBelow t) q
+
+pub none-struck : (t : ℕ → Bool) → false ≡ anyBelow t 0
+none-struck t = sym (any-none t)
+
+pub ruleset rounding = (needs, filled-none, none-struck, round-done, any-over)
+
+-- all rounds
+
+-- the nodes that have not fallen
+unfoldable pub standing : List ℕ → ℕ → ℕ
+standing ranks n = count (λ k. not (fell ranks k)) n
+
+module _ (p : List ℕ) (g : List (List ℕ)) (u f : List ℕ) (l : Level) where
+  abbrev arenaHere : Arena
+  arenaHere = arenaOf p g u f l
+
+  safe-is : (k : ℕ) → arenaHere .safe k ≡ safeAt p (k / l .power)
+  unfolding arenaOf levelArena viewOf
+  safe-is k = refl
+
+  first-rank-is : (k : ℕ) → firstRank p l k ≡ rankIn arenaHere 0 (ranksAfter arenaHere 0) k
+  unfolding firstRank rankIn falls
+  first-rank-is k =
+      rw (fell-false (ranksAfter arenaHere 0) k (rank-zero arenaHere k), right-is p g u f l k, safe-is k)
+
+  pub after-first : l .nodes ≡ length p * l .power → tabulate (firstRank p l) 0 (l .nodes) ≡ ranksAfter arenaHere 1
+  after-first s =
+      ap (tabulate (firstRank p l) 0) (s ∙ sym (nodes-of p g u f l))
+      ∙ tabulate-same (firstRank p l) (rankIn arenaHere 0 (ranksAfter arenaHere 0)) 0 (arenaHere .nodes) (λ k h. first-rank-is k)
+      ∙ sym (after-suc arenaHere 0)
+
+  pub first-ranked : {ranks : List ℕ} → ranks ≡ tabulate (firstRank p l) 0 (l .nodes) → l .nodes ≡ length p * l .power
+      → ranks ≡ ranksAfter arenaHere 1
+  first-ranked e s = e ∙ after-first s
+
+next-at : (E : Arena) (n : ℕ) (ranks : List ℕ) (k : ℕ) → k < E .nodes → getD (nextRanks E n ranks) k 0 ≡ rankIn E n ranks k
+unfolding nextRanks
+next-at E n ranks k h = getD-tabulate (rankIn E n ranks) (E .nodes) k 0 h
+
+quiet-last : (E : Arena) (n : ℕ) → 1 ≤ n → ranksAfter E (suc n) ≡ ranksAfter E n → finalRanks E ≡ ranksAfter E n
+quiet-last E zero h q = absurd (omega arith)
+quiet-last E (suc m) h q = final-is E m q
+
+module _ (E : Arena) (n : ℕ) {ranks : List ℕ} (e : ranks ≡ ranksAfter E n) where
+  pub ranked-most : AtMost n ranks
+  ranked-most k = rw e (rank-le E n k)
+
+  pub ranked-next : {now : List ℕ} → now ≡ nextRanks E n ranks → now ≡ ranksAfter E (n + 1)
+  unfolding nextRanks
+  ranked-next d =
+      d
+      ∙ ap (λ (l : List ℕ). tabulate (rankIn E n l) 0 (E .nodes)) e
+      ∙ sym (rw (add-one n) (after-suc E n))
+
+  -- a round in which nothing is struck is the last
+
+  same-ranks : anyBelow (strikes E n ranks) (E .nodes) ≡ false → nextRanks E n ranks ≡ ranks
+  unfolding nextRanks
+  same-ranks a =
+      ext-getD 0 (tabulate (rankIn E n ranks) 0 (E .nodes)) ranks
+      (length-tabulate (rankIn E n ranks) 0 (E .nodes) ∙ sym (ap length e ∙ length-after E n))
+      (λ k h.
+      let b : k < E .nodes = rw (length-tabulate (rankIn E n ranks) 0 (E .nodes)) at h in
+      getD-tabulate (rankIn E n ranks) (E .nodes) k 0 b
+      ∙ sym (rank-kept E n ranks k (any-below-none (strikes E n ranks) (E .nodes) a k b)))
+
+  final-now : 1 ≤ n → anyBelow (strikes E n ranks) (E .nodes) ≡ false → finalRanks E ≡ ranksAfter E n
+  final-now h a =
+      let d = ranked-next {now = nextRanks E n ranks} refl in
+      quiet-last E n h (ap (ranksAfter E) (sym (add-one n)) ∙ sym d ∙ same-ranks a ∙ e)
+
+  pub ranked-final : {now : List ℕ} → 1 ≤ n → now ≡ nextRanks E n ranks → anyBelow (strikes E n ranks) (E .nodes) ≡ false → now ≡ finalRanks E
+  ranked-final h d a = d ∙ same-ranks a ∙ e ∙ sym (final-now h a)
+
+  pub final-most : {now : List ℕ} → 1 ≤ n → now ≡ nextRanks E n ranks → anyBelow (strikes E n ranks) (E .nodes) ≡ false → AtMost n now
+  final-most h d a k = rw (d ∙ same-ranks a) (ranked-most k)
+
+  -- a round in which a node is struck leaves fewer standing
+
+  struck-stands : (k : ℕ) → strikes E n ranks k ≡ true → fell ranks k ≡ false
+  unfolding strikes
+  struck-stands k t = not-true (fell ranks k) (both-left _ _ t)
+
+  pub ranked-fewer : {now : List ℕ} → now ≡ nextRanks E n ranks → anyBelow (strikes E n ranks) (E .nodes) ≡ true
+      → standing now (E .nodes) < standing ranks (E .nodes)
+  unfolding standing
+  ranked-fewer {now} d a =
+      let s = any-some (strikes E n ranks) (E .nodes) a in
+      ⊎-elim
+      (λ same.
+      let q = same (s .0) (s .1) in
+      let r = struck-stands (s .0) (s .2) in
+      absurd (not-both (ap not r) (sym q ∙ ap not (fell-true now (s .0) (new (s .0) (s .1) (s .2))))))
+      (λ l. l)
+      (count-less (λ k. not (fell now k)) (λ k. not (fell ranks k)) (E .nodes) (λ k t. older k (bool (fell ranks k)) t))
+    where
+      new : (k : ℕ) → k < E .nodes → strikes E n ranks k ≡ true → 0 < getD now k 0
+      new k h t =
+          let q : getD now k 0 ≡ rankIn E n ranks k = ap (λ (l : List ℕ). getD l k 0) d ∙ next-at E n ranks k h in
+          let r = rank-struck E n ranks k t in
+          omega arith
+
+      older : (k : ℕ) → (fell ranks k ≡ true) ⊎ (fell ranks k ≡ false) → not (fell now k) ≡ true → not (fell ranks k) ≡ true
+      older k b t =
+          ⊎-elim
+          (λ (f : fell ranks k ≡ true).
+          let g : fell now k ≡ true = rw (ranked-next d, add-one n) (stays-fallen E n k (rw e at f)) in
+          absurd (not-both g (not-true (fell now k) t)))
+          (λ (f : fell ranks k ≡ false). ap not f)
+          b
+
+-- the same at the number of nodes that the level has
+
+module _ (p : List ℕ) (g : List (List ℕ)) (u f : List ℕ) (l : Level) (s : l .nodes ≡ length p * l .power) (n : ℕ) {ranks now : List ℕ}
+    (e : ranks ≡ ranksAfter (arenaOf p g u f l) n) (d : now ≡ nextRanks (arenaOf p g u f l) n ranks)
+    {r : Bool} (a : r ≡ anyBelow (strikes (arenaOf p g u f l) n ranks) (l .nodes)) where
+  all-nodes : l .nodes ≡ arenaOf p g u f l .nodes
+  all-nodes = s ∙ sym (nodes-of p g u f l)
+
+  struck-here : anyBelow (strikes (arenaOf p g u f l) n ranks) (arenaOf p g u f l .nodes) ≡ r
+  struck-here = ap (anyBelow (strikes (arenaOf p g u f l) n ranks)) (sym all-nodes) ∙ sym a
+
+  pub rounds-final : 1 ≤ n → not r ≡ true → now ≡ finalRanks (arenaOf p g u f l)
+  rounds-final h t = ranked-final (arenaOf p g u f l) n e h d (struck-here ∙ not-true r t)
+
+  pub rounds-most : 1 ≤ n → not r ≡ true → AtMost n now
+  rounds-most h t = final-most (arenaOf p g u f l) n e h d (struck-here ∙ not-true r t)
+
+  pub rounds-fewer : not r ≡ false → standing now (l .nodes) < standing ranks (l .nodes)
+  rounds-fewer t =
+      let h = ranked-fewer (arenaOf p g u f l) n e d (struck-here ∙ not-false r t) in
+      let x = ap (standing now) all-nodes in
+      let y = ap (standing ranks) all-nodes in
+      omega arith
+
+  pub rounds-count : not r ≡ false → n + standing ranks (l .nodes) ≤ l .nodes + 1 → n + 1 + standing now (l .nodes) ≤ l .nodes + 1
+  rounds-count t h = let m = rounds-fewer t in omega arith
+
+-- after round 1
+standing-le : (ranks : List ℕ) (n : ℕ) → standing ranks n ≤ n
+unfolding standing
+standing-le ranks n = count-le (λ k. not (fell ranks k)) n
+
+pub first-count : (ranks : List ℕ) (n : ℕ) → 1 + standing ranks n ≤ n + 1
+first-count ranks n = let h = standing-le ranks n in omega arith
+
+pub ruleset allRounds = (needs, first-ranked, first-count, ranked-most, ranked-next, rounds-final, rounds-most, rounds-fewer, rounds-count)

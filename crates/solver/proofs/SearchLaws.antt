@@ -1,0 +1,186 @@
+-- The search upward (src/delays.rt): what holds at each delay, and where it stops. Assumes nothing.
+use Prim.Native.Nat.{ℕ, _+_, _-_, _≤_, _<_}
+use mathlib.Core.Path.{_≡_, refl, sym, _∙_, ap}
+use mathlib.Core.Bool.{Bool, true, false, not}
+use mathlib.Core.Logic.{⊎-elim}
+use mathlib.Core.List.{List, _++_}
+use native.Mathlib.Omega.{arith}
+use lib.ListN.{length, take, drop, length-append, length-drop}
+use lib.Seq.{take-at, drop-append-add, drop-drop, length-take-le}
+use borrow.Author.Needs.{needs}
+use borrow.Author.Tests.{not-true, not-false}
+use Rattle.theory.specs.Fold.{anyBelow}
+use Rattle.theory.specs.Game.{Game, Legal}
+use Rattle.theory.specs.Rounds.{finalRanks}
+use Rattle.theory.specs.Delay.{wins, losing, arena, winning, answer}
+use Rattle.theory.proofs.Fold.{below?}
+use Rattle.theory.proofs.Rounds.{final-length}
+use Rattle.theory.proofs.Waiting.{answer-wins, answer-found}
+use Rattle.sheet.specs.Checks.{nodesOf}
+use Rattle.solver.specs.declared.level.Level.{Level}
+use Rattle.solver.specs.View.{viewOf, arenaOf, Sized, Room, levelAt}
+use Rattle.solver.specs.Strikes.{goodIn, firstWords, AtMost}
+use Rattle.solver.specs.Solving.{solvedDelay, over, verdictBy, Stopped}
+use Rattle.solver.proofs.LevelLaws.{nodes-less, room-less, level-sized, arena-is, nodes-is}
+use Rattle.solver.proofs.GoodLaws.{winning-is}
+
+-- every delay below d wins, and nothing beyond the nodes of delay d has changed
+pub record Searched (G : Game) (nodes delay d : ℕ) (before ranks : List ℕ) : Type 0 where
+  pub asked : d ≤ delay
+  pub room : length ranks ≡ length before
+  pub beyond : drop nodes ranks ≡ drop nodes before
+  pub won : (j : ℕ) → j < d → winning G j ≡ true
+
+-- the arrays, the numbers of a sheet, a buffer with room, and the search at delay d with the ranks in old
+module _ (p : List ℕ) (g : List (List ℕ)) (u f : List ℕ) (start actions delay : ℕ) (before old : List ℕ) (d : ℕ)
+    (room : Room (length p) actions delay) (enough : nodesOf (length p) actions delay ≤ length before)
+    (legal : Legal (viewOf p g u f start actions))
+    (searched : Searched (viewOf p g u f start actions) (nodesOf (length p) actions d) delay d before old) where
+  abbrev G : Game
+  G = viewOf p g u f start actions
+
+  abbrev nodes : ℕ
+  nodes = nodesOf (length p) actions d
+
+  pub room-here : Room (length p) actions d
+  room-here = room-less room (searched .asked)
+
+  fit : nodes ≤ length old
+  fit =
+      let l = nodes-less room (searched .asked) in
+      let e = searched .room in
+      omega arith
+
+  next : d ≤ delay → (d ≡ delay → ⊥) → d + 1 ≤ delay
+  next a e = omega arith
+
+  pub level-here : {l : Level} → l ≡ levelAt (length p) start actions d → Sized (length p) l
+  level-here is = rw is (level-sized room-here start)
+
+  pub start-here : {l : Level} → l ≡ levelAt (length p) start actions d → start < 256 → l .start < 65536
+  start-here is h = rw is (omega arith)
+
+  pub fits-here : {l : Level} → l ≡ levelAt (length p) start actions d → l .nodes ≤ length old
+  fits-here is = rw is fit
+
+  pub front-length : {l : Level} → l ≡ levelAt (length p) start actions d → length (take (l .nodes) old) ≡ l .nodes
+  front-length {l} is = length-take-le (l .nodes) old (fits-here is)
+
+  -- the rounds gave these ranks at this level
+  module _ (l : Level) (is : l ≡ levelAt (length p) start actions d) (ranks : List ℕ) (n : ℕ)
+      (final : ranks ≡ finalRanks (arenaOf p g u f l)) (most : AtMost n ranks) where
+    ranks-here : ranks ≡ finalRanks (arena G d)
+    ranks-here = final ∙ ap (λ x. finalRanks (arenaOf p g u f x)) is ∙ ap finalRanks (arena-is p g u f start actions d)
+
+    ranks-length : length ranks ≡ nodes
+    ranks-length = ap length ranks-here ∙ final-length (arena G d) ∙ nodes-is p g u f start actions d
+
+    level-nodes : l .nodes ≡ nodes
+    level-nodes = ap (λ (x : Level). x .nodes) is
+
+    -- the buffer after them
+    abbrev after : List ℕ
+    after = ranks ++ drop (l .nodes) old
+
+    after-over : after ≡ over (finalRanks (arena G d)) before
+    unfolding over
+    after-over =
+        ap (λ x. ranks ++ drop x old) level-nodes
+        ∙ ap (λ x. ranks ++ x) (searched .beyond)
+        ∙ ap (λ (x : List ℕ). x ++ drop nodes before) ranks-here
+        ∙ ap (λ x. finalRanks (arena G d) ++ drop x before) (sym (ap length (sym ranks-here) ∙ ranks-length))
+
+    pub after-length : length after ≡ length before
+    after-length =
+        let n = ranks-length in
+        let m = level-nodes in
+        let e = searched .room in
+        let i = fit in
+        rw (length-append ranks (drop (l .nodes) old), length-drop (l .nodes) old) (omega arith)
+
+    pub after-room : l .nodes ≤ length after
+    after-room = let n = after-length in let m = level-nodes in let e = searched .room in let i = fit in omega arith
+
+    -- the part that is lent on
+    pub after-front : length (take (l .nodes) after) ≡ l .nodes
+    after-front = length-take-le (l .nodes) after after-room
+
+    front-here : take (l .nodes) after ≡ ranks
+    front-here = take-at ranks (drop (l .nodes) old) (l .nodes) (ranks-length ∙ sym level-nodes)
+
+    most-here : AtMost n (finalRanks (arena G d))
+    most-here = rw (← ranks-here) most
+
+    module _ {r : Bool} (some : r ≡ anyBelow (goodIn p g l (take (l .nodes) after)) (firstWords l)) where
+      tested : r ≡ winning G d
+      tested =
+          winning-is p g u f start actions d ranks-here
+          (some
+          ∙ ap (λ x. anyBelow (goodIn p g l x) (firstWords l)) front-here
+          ∙ ap (λ x. anyBelow (goodIn p g x ranks) (firstWords x)) is)
+
+      lost-answer : not r ≡ true → answer G delay ≡ losing d
+      lost-answer x = answer-found G legal delay d (searched .asked) (searched .won) (sym tested ∙ not-true r x)
+
+      pub stops-lost : not r ≡ true → Stopped G delay before after (record { wins = false; delay = d; rounds = n })
+      unfolding verdictBy solvedDelay
+      stops-lost x =
+          record {
+            verdict = sym (lost-answer x);
+            delay = sym (ap (solvedDelay delay) (lost-answer x));
+            ranks = after-over;
+            rounds = most-here;
+          }
+
+      won-here : not r ≡ false → winning G d ≡ true
+      won-here x = sym tested ∙ not-false r x
+
+      won-answer : not r ≡ false → d ≡ delay → answer G delay ≡ wins
+      won-answer x e = ap (answer G) (sym e) ∙ answer-wins G legal d (won-here x)
+
+      pub stops-won : not r ≡ false → d ≡ delay → Stopped G delay before after (record { wins = true; delay = d; rounds = n })
+      unfolding verdictBy solvedDelay
+      stops-won x e =
+          record {
+            verdict = sym (won-answer x e);
+            delay = e ∙ sym (ap (solvedDelay delay) (won-answer x e));
+            ranks = after-over;
+            rounds = most-here;
+          }
+
+      -- on to the next delay, which has no fewer nodes
+      pub searched-next : not r ≡ false → (d ≡ delay → ⊥)
+          → Searched G (nodesOf (length p) actions (d + 1)) delay (d + 1) before after
+      searched-next x e =
+          let a = searched .asked in
+          record { asked = omega arith; room = after-length; beyond = rest; won = all }
+        where
+          more : nodesOf (length p) actions d ≤ nodesOf (length p) actions (d + 1)
+          more = let a = searched .asked in nodes-less (room-less room (next a e)) (omega arith)
+
+          all : (j : ℕ) → j < d + 1 → winning G j ≡ true
+          all j h =
+              ⊎-elim
+              (λ (i : j < d). searched .won j i)
+              (λ (i : d ≤ j). let q : j ≡ d = omega arith in rw q (won-here x))
+              (below? j d)
+
+          rest : drop (nodesOf (length p) actions (d + 1)) after ≡ drop (nodesOf (length p) actions (d + 1)) before
+          rest =
+              let m = more in
+              let k = nodesOf (length p) actions (d + 1) - nodes in
+              let q : nodesOf (length p) actions (d + 1) ≡ nodes + k = omega arith in
+              let z : nodes + k ≡ length ranks + k = let n = ranks-length in omega arith in
+              ap (λ x. drop x after) (q ∙ z)
+              ∙ drop-append-add ranks (drop (l .nodes) old) k
+              ∙ ap (λ x. drop k (drop x old)) level-nodes
+              ∙ ap (drop k) (searched .beyond)
+              ∙ drop-drop k nodes before
+              ∙ ap (λ x. drop x before) (sym q)
+
+module _ (G : Game) (nodes delay : ℕ) (before : List ℕ) where
+  pub searched-start : Searched G nodes delay 0 before before
+  searched-start = record { asked = omega arith; room = refl; beyond = refl; won = λ j h. absurd (omega arith) }
+
+pub ruleset upward =
+    (needs, searched-start, room-here, level-here, start-here, fits-here, front-length, after-length, after-room, after-front, stops-lost, stops-won, searched-next)

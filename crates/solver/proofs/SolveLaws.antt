@@ -1,0 +1,318 @@
+-- Filling both buffers, and solving, as the code of src/solve.rt finds them. Assumes nothing.
+use Prim.Native.Nat.{ℕ, _≤_, _<_}
+use mathlib.Core.Path.{_≡_, refl, sym, _∙_, ap}
+use mathlib.Core.Bool.{Bool, true, false}
+use mathlib.Core.List.{List, _++_}
+use native.Mathlib.Omega.{arith}
+use native.Mathlib.Nat.{le-refl}
+use lib.Dec.{leb}
+use lib.ListN.{length, take, drop, length-append, length-drop}
+use lib.Seq.{take-at, length-take-le}
+use borrow.Author.Needs.{needs}
+use borrow.Author.Tests.{le-leb, lt-leb}
+use Rattle.theory.specs.Fold.{both}
+use Rattle.theory.specs.Answer.{refused, accepted, onAccepted}
+use Rattle.theory.specs.Game.{Game, Legal}
+use Rattle.theory.specs.Rounds.{masks, masksBy, finalRanks}
+use Rattle.theory.specs.Delay.{Verdict, wins, losing, arena, answer}
+use Rattle.theory.proofs.Fold.{both-true, both-false}
+use Rattle.theory.proofs.Answer.{check-passed, check-failed}
+use Rattle.theory.proofs.Rounds.{final-length}
+use Rattle.theory.proofs.Region.{length-masks}
+use Rattle.theory.proofs.Waiting.{answer-least}
+use Rattle.sheet.specs.Form.{partAt}
+use Rattle.sheet.specs.Checks.{nodesOf}
+use Rattle.sheet.specs.Refusals.{numberOf}
+use Rattle.sheet.specs.Reading.{readAnswer, delayOf, refusalNumber, positionsBody}
+use Rattle.sheet.specs.Reading as reading
+use Rattle.sheet.specs.Meant.{gameOf, gridOf}
+use Rattle.sheet.specs.declared.refusal.Refusal.{Refusal}
+use Rattle.sheet.specs.declared.refusal.Refusal.the-variants.{Buffers}
+use Rattle.sheet.specs.declared.reading.Layout.{Layout}
+use Rattle.sheet.specs.declared.reading.Reading.{Reading}
+use Rattle.sheet.specs.declared.reading.Reading.the-variants.{Accepted, Refused}
+use Rattle.sheet.proofs.Accepted.{read-is, ranges, carries, arena-nodes}
+use Rattle.sheet.proofs.Legality.{legal-game}
+use Rattle.solver.specs.declared.level.Level.{Level}
+use Rattle.solver.specs.declared.delays.Stop.{Stop}
+use Rattle.solver.specs.View.{firstsOf, viewOf, arenaOf, Sized, Room, levelAt}
+use Rattle.solver.specs.Strikes.{AtMost}
+use Rattle.solver.specs.Solving.{solveAnswer, solvedDelay, over, masksAfter, ranksLeft, verdictBy, Stopped, bodiesGame, Fillable, Filled}
+use Rattle.solver.proofs.More.{both-none}
+use Rattle.solver.proofs.LevelLaws.{nodes-less, room-less, level-sized, arena-is, nodes-is}
+use Rattle.solver.proofs.Bodies.{bodies-game}
+
+pub length-over : (entries buffer : List ℕ) → length entries ≤ length buffer → length (over entries buffer) ≡ length buffer
+unfolding over
+length-over entries buffer h =
+    rw (length-append entries (drop (length entries) buffer), length-drop (length entries) buffer) (omega arith)
+
+-- the search stops at no more than the asked delay
+stop-within : (G : Game) → Legal G → (d : ℕ) (v : Verdict) → answer G d ≡ v → solvedDelay d v ≤ d
+unfolding solvedDelay
+stop-within G legal d wins e = le-refl d
+stop-within G legal d (losing m) e = answer-least G legal d m e .asked
+
+-- both buffers of a sheet's bodies: g and f are the arrays made of them, r is where the search stopped, with the ranks in after
+module _ (p c u : List ℕ) (start actions delay : ℕ) (before-masks before : List ℕ)
+    (fillable : Fillable p c u start actions delay before-masks before)
+    (g : List (List ℕ)) (f : List ℕ) (eg : g ≡ gridOf c) (ef : f ≡ firstsOf u) where
+  abbrev G : Game
+  G = viewOf p g u f start actions
+
+  game-here : bodiesGame p c u start actions ≡ G
+  unfolding bodiesGame
+  game-here = rw (eg, ef)
+
+  pub legal-here : Legal G
+  legal-here = rw game-here at (fillable .legal)
+
+  module _ (after : List ℕ) (r : Stop) (stopped : Stopped G delay before after r) where
+    within : r .delay ≤ delay
+    within = rw (stopped .delay) (stop-within G legal-here delay (answer G delay) refl)
+
+    pub room-stop : Room (length p) actions (r .delay)
+    room-stop = room-less (fillable .room) within
+
+    few : nodesOf (length p) actions (r .delay) ≤ nodesOf (length p) actions delay
+    few = nodes-less (fillable .room) within
+
+    ranks-length : length (finalRanks (arena G (r .delay))) ≡ nodesOf (length p) actions (r .delay)
+    ranks-length = final-length (arena G (r .delay)) ∙ nodes-is p g u f start actions (r .delay)
+
+    pub after-length : length after ≡ length before
+    after-length =
+        let e = ranks-length in
+        let h = fillable .ranks-room in
+        let i = few in
+        rw (stopped .ranks) (length-over (finalRanks (arena G (r .delay))) before (omega arith))
+
+    module _ (l : Level) (is : l ≡ levelAt (length p) start actions (r .delay)) where
+      level-nodes : l .nodes ≡ nodesOf (length p) actions (r .delay)
+      level-nodes = ap (λ (x : Level). x .nodes) is
+
+      pub sized-stop : Sized (length p) l
+      sized-stop = rw is (level-sized room-stop start)
+
+      pub ranks-room : l .nodes ≤ length after
+      ranks-room = let e = level-nodes in let h = fillable .ranks-room in let i = few in let n = after-length in omega arith
+
+      pub masks-room : l .nodes ≤ length before-masks
+      masks-room = let e = level-nodes in let h = fillable .masks-room in let i = few in omega arith
+
+      pub masks-front : length (take (l .nodes) before-masks) ≡ l .nodes
+      masks-front = length-take-le (l .nodes) before-masks masks-room
+
+      ranks-front : take (l .nodes) after ≡ finalRanks (arena G (r .delay))
+      unfolding over
+      ranks-front = rw (stopped .ranks) (take-at _ _ (l .nodes) (ranks-length ∙ sym level-nodes))
+
+      pub ranks-count : length (take (l .nodes) after) ≡ l .nodes
+      ranks-count = length-take-le (l .nodes) after ranks-room
+
+      pub most-stop : AtMost (r .rounds) (take (l .nodes) after)
+      most-stop = rw ranks-front (stopped .rounds)
+
+      made : {m : List ℕ} → m ≡ masksBy (arenaOf p g u f l) (take (l .nodes) after) → m ≡ masks (arena G (r .delay))
+      unfolding masks
+      made e =
+          e
+          ∙ ap (masksBy (arenaOf p g u f l)) ranks-front
+          ∙ ap
+          (λ E. masksBy E (finalRanks (arena G (r .delay))))
+          (ap (arenaOf p g u f) is ∙ arena-is p g u f start actions (r .delay))
+
+      made-length : {m : List ℕ} → m ≡ masksBy (arenaOf p g u f l) (take (l .nodes) after) → length m ≡ l .nodes
+      made-length e =
+          ap length (made e)
+          ∙ length-masks (arena G (r .delay))
+          ∙ nodes-is p g u f start actions (r .delay)
+          ∙ sym level-nodes
+
+      pub masks-length : {m : List ℕ} → m ≡ masksBy (arenaOf p g u f l) (take (l .nodes) after)
+          → length (m ++ drop (l .nodes) before-masks) ≡ length before-masks
+      masks-length {m} e =
+          let n = made-length e in
+          let h = masks-room in
+          rw (length-append m (drop (l .nodes) before-masks), length-drop (l .nodes) before-masks) (omega arith)
+
+      pub fills : {m : List ℕ} → m ≡ masksBy (arenaOf p g u f l) (take (l .nodes) after)
+          → Filled (bodiesGame p c u start actions) delay before-masks before (m ++ drop (l .nodes) before-masks) after r
+      unfolding over
+      fills {m} e =
+          rw game-here
+          (record {
+            stopped = stopped;
+            masks =
+                ap (λ x. m ++ drop x before-masks) (sym (made-length e))
+                ∙ ap (λ (x : List ℕ). x ++ drop (length x) before-masks) (made e);
+          })
+
+pub ruleset filling =
+    (needs, legal-here, room-stop, after-length, sized-stop, ranks-room, masks-room, masks-front, ranks-count, most-stop, masks-length, fills)
+
+-- solving: a refused reading is handed on, and alters nothing
+
+module _ (s : List ℕ) (rd : Reading) (e : reading.meaning rd ≡ readAnswer s) where
+  module _ (x : Refusal) (a : rd ≡ Refused x) where
+    refuses : (m k : ℕ) → solveAnswer s m k ≡ refused (numberOf x)
+    unfolding solveAnswer onAccepted
+    refuses m k = rw (← e, a)
+
+    pub handed-on : (m k : ℕ) {n : ℕ} → n ≡ refusalNumber rd → refused n ≡ solveAnswer s m k
+    handed-on m k {n} f = ap refused (f ∙ ap refusalNumber a) ∙ sym (refuses m k)
+
+    pub masks-untouched : (b : List ℕ) (m k : ℕ) → b ≡ masksAfter s (solveAnswer s m k) b
+    unfolding masksAfter
+    masks-untouched b m k = rw (refuses m k)
+
+    pub ranks-untouched : (b : List ℕ) (m k : ℕ) → b ≡ ranksLeft s (solveAnswer s m k) b
+    unfolding ranksLeft
+    ranks-untouched b m k = rw (refuses m k)
+
+  -- an accepted reading: its P body and its level
+  module _ (l : Layout) (a : rd ≡ Accepted l) (p : List ℕ) (ep : p ≡ partAt s (l .positions)) where
+    answered : readAnswer s ≡ accepted l
+    answered = sym e ∙ ap reading.meaning a
+
+    positions-is : p ≡ positionsBody s
+    positions-is = ep ∙ carries s l answered .positions-part
+
+    pub room-read : Room (length p) (l .actions) (l .delay)
+    room-read =
+        let r = ranges s (read-is s l answered .0) in
+        let c = carries s l answered in
+        rw (positions-is, c .actions, c .delay)
+        (record {
+          some-position = r .some-position;
+          few-positions = r .few-positions;
+          some-action = r .some-action;
+          few-actions = r .few-actions;
+          few-nodes = r .few-nodes;
+        })
+
+    pub game-read : (c u : List ℕ) → c ≡ partAt s (l .targets) → u ≡ partAt s (l .moves)
+        → bodiesGame p c u (l .start) (l .actions) ≡ gameOf s
+    game-read c u ec eu =
+        let x = carries s l answered in
+        rw (positions-is, ec, eu, x .targets-part, x .moves-part, x .start, x .actions) (bodies-game s (read-is s l answered .0))
+
+    module _ (v : Level) (is : v ≡ levelAt (length p) (l .start) (l .actions) (l .delay)) where
+      nodes-read : v .nodes ≡ arena (gameOf s) (delayOf s) .nodes
+      nodes-read =
+          let c = carries s l answered in
+          ap (λ (x : Level). x .nodes) is
+          ∙ rw (positions-is, c .actions, c .delay) (sym (arena-nodes s (delayOf s)))
+
+      abbrev owed : ℕ
+      owed = arena (gameOf s) (delayOf s) .nodes
+
+      abbrev roomy : ℕ → ℕ → Bool
+      roomy m k = both (leb owed m) (leb owed k)
+
+      few-masks : (m k : ℕ) → m < v .nodes → roomy m k ≡ false
+      few-masks m k h = let n = nodes-read in both-none _ _ (lt-leb owed m (omega arith))
+
+      few-ranks : (m k : ℕ) → k < v .nodes → roomy m k ≡ false
+      few-ranks m k h = let n = nodes-read in both-false _ _ (lt-leb owed k (omega arith))
+
+      refuses-8 : (m k : ℕ) → roomy m k ≡ false → solveAnswer s m k ≡ refused 8
+      unfolding solveAnswer onAccepted
+      refuses-8 m k f = rw answered (check-failed _ 8 _ f)
+
+      pub masks-refused : (m k : ℕ) {n : ℕ} → m < v .nodes → n ≡ numberOf Buffers → refused n ≡ solveAnswer s m k
+      masks-refused m k h f = ap refused f ∙ sym (refuses-8 m k (few-masks m k h))
+
+      pub ranks-refused : (m k : ℕ) {n : ℕ} → k < v .nodes → n ≡ numberOf Buffers → refused n ≡ solveAnswer s m k
+      ranks-refused m k h f = ap refused f ∙ sym (refuses-8 m k (few-ranks m k h))
+
+      pub masks-kept-1 : (b : List ℕ) (m k : ℕ) → m < v .nodes → b ≡ masksAfter s (solveAnswer s m k) b
+      unfolding masksAfter
+      masks-kept-1 b m k h = rw (refuses-8 m k (few-masks m k h))
+
+      pub ranks-kept-1 : (b : List ℕ) (m k : ℕ) → m < v .nodes → b ≡ ranksLeft s (solveAnswer s m k) b
+      unfolding ranksLeft
+      ranks-kept-1 b m k h = rw (refuses-8 m k (few-masks m k h))
+
+      pub masks-kept-2 : (b : List ℕ) (m k : ℕ) → k < v .nodes → b ≡ masksAfter s (solveAnswer s m k) b
+      unfolding masksAfter
+      masks-kept-2 b m k h = rw (refuses-8 m k (few-ranks m k h))
+
+      pub ranks-kept-2 : (b : List ℕ) (m k : ℕ) → k < v .nodes → b ≡ ranksLeft s (solveAnswer s m k) b
+      unfolding ranksLeft
+      ranks-kept-2 b m k h = rw (refuses-8 m k (few-ranks m k h))
+
+      -- both buffers have room, and c and u are the other bodies
+      module _ (m k : List ℕ) (hm : v .nodes ≤ length m) (hk : v .nodes ≤ length k) (c u : List ℕ) (ec : c ≡ partAt s (l .targets))
+          (eu : u ≡ partAt s (l .moves)) where
+        solved : solveAnswer s (length m) (length k) ≡ accepted (record { verdict = answer (gameOf s) (delayOf s); layout = l })
+        unfolding solveAnswer onAccepted
+        solved =
+            let n = nodes-read in
+            rw answered (check-passed _ 8 _ (both-true _ _ (le-leb owed (length m) (omega arith)) (le-leb owed (length k) (omega arith))))
+
+        pub fillable-read : Fillable p c u (l .start) (l .actions) (l .delay) m k
+        fillable-read =
+            let n = ap (λ (x : Level). x .nodes) is in
+            record {
+              room = room-read;
+              few-moves = rw (eu, carries s l answered .moves-part) (ranges s (read-is s l answered .0) .few-moves);
+              legal = rw (game-read c u ec eu) (legal-game s l answered);
+              masks-room = omega arith;
+              ranks-room = omega arith;
+            }
+
+        -- after filling
+        module _ (m′ k′ : List ℕ) (r : Stop) (filled : Filled (bodiesGame p c u (l .start) (l .actions)) (l .delay) m k m′ k′ r) where
+          filled-read : Filled (gameOf s) (delayOf s) m k m′ k′ r
+          filled-read = rw (game-read c u ec eu, carries s l answered .delay) at filled
+
+          stop-is : r .delay ≡ solvedDelay (delayOf s) (answer (gameOf s) (delayOf s))
+          stop-is = filled-read .stopped .delay
+
+          answer-won : r .wins ≡ true → accepted (record { verdict = wins; layout = l }) ≡ solveAnswer s (length m) (length k)
+          unfolding verdictBy
+          answer-won w =
+              ap (λ x. accepted (record { verdict = x; layout = l })) (rw w at (filled-read .stopped .verdict)) ∙ sym solved
+
+          answer-lost : r .wins ≡ false
+              → accepted (record { verdict = losing (r .delay); layout = l }) ≡ solveAnswer s (length m) (length k)
+          unfolding verdictBy
+          answer-lost w =
+              ap (λ x. accepted (record { verdict = x; layout = l })) (rw w at (filled-read .stopped .verdict)) ∙ sym solved
+
+          masks-filled : m′ ≡ masksAfter s (solveAnswer s (length m) (length k)) m
+          unfolding masksAfter
+          masks-filled = rw (solved, ← stop-is) (filled-read .masks)
+
+          ranks-filled : k′ ≡ ranksLeft s (solveAnswer s (length m) (length k)) k
+          unfolding ranksLeft
+          ranks-filled = rw (solved, ← stop-is) (filled-read .stopped .ranks)
+
+          -- the three promises
+          abbrev Promised : Verdict → Type 0
+          Promised x =
+              (accepted (record { verdict = x; layout = l }) ≡ solveAnswer s (length m) (length k))
+              × ((m′ ≡ masksAfter s (solveAnswer s (length m) (length k)) m)
+              × (k′ ≡ ranksLeft s (solveAnswer s (length m) (length k)) k))
+
+          pub solves-won : r .wins ≡ true → Promised wins
+          solves-won w = (answer-won w, (masks-filled, ranks-filled))
+
+          pub solves-lost : r .wins ≡ false → Promised (losing (r .delay))
+          solves-lost w = (answer-lost w, (masks-filled, ranks-filled))
+
+pub ruleset solving = (
+  needs,
+  handed-on,
+  masks-untouched,
+  ranks-untouched,
+  room-read,
+  masks-refused,
+  ranks-refused,
+  masks-kept-1,
+  ranks-kept-1,
+  masks-kept-2,
+  ranks-kept-2,
+  fillable-read,
+)

@@ -1,0 +1,291 @@
+-- What the walk over a node's actions and moves finds, and that it is theory's `spoiltBy` (specs/Walks.antt, specs/View.antt).
+-- Assumes nothing.
+use Prim.Native.Nat.{ℕ, suc, _+_, _*_, _/_, _%_, _≤_, _<_}
+use mathlib.Core.Path.{_≡_, refl, sym, _∙_, ap}
+use mathlib.Core.Bool.{Bool, true, false, not}
+use mathlib.Core.Logic.{⊎-elim}
+use mathlib.Core.List.{List, [], map}
+use native.Mathlib.Omega.{arith}
+use native.Mathlib.Nat.{mod-lt, div-lt-iff-lt-mul}
+use native.Mathlib.Numerals.{add-one}
+use lib.Dec.{ltb, leb}
+use lib.ListN.{length, getD, List·getD-eq-default}
+use borrow.Author.Tests.{eq-eqb, ne-eqb, lt-ltb, le-ltb, not-true, not-false}
+use borrow.Author.Needs.{needs}
+use Rattle.theory.specs.Fold.{both, either, allBelow, anyOf}
+use Rattle.theory.specs.Game.{Target, absent, to, Game}
+use Rattle.theory.specs.Rounds.{bad, spoiltBy}
+use Rattle.theory.specs.Delay.{withWord, movedTo, playedTo, outcomes}
+use Rattle.theory.proofs.Fold.{bool, all-none, all-suc, all-done, below?, not-both, all-again, either-left, any-of-nil, any-of-cons, both-true, both-false}
+use Rattle.sheet.specs.Kinds.{kindAt, isSafe, safeAt}
+use Rattle.sheet.specs.Meant.{unmark}
+use Rattle.solver.specs.declared.level.Level.{Level}
+use Rattle.solver.specs.declared.walk.Choice.{Choice}
+use Rattle.solver.specs.View.{cellAt, toAt, tosBetween, viewOf, levelArena, arenaOf}
+use Rattle.solver.specs.Walks.{fallenBy, blockedAt, movesFrom, movesAfter, playedAt, choiceAt, outcomeBy, outcomeAt, Chosen}
+use Rattle.solver.proofs.More.{both-none, both-second, either-second, all-short, any-of-map, tabulate-none, tabulate-next}
+
+-- targets, as the grid has them
+
+pub unmark-absent : {t : ℕ} → t ≡ 256 → unmark t ≡ absent
+unfolding unmark
+unmark-absent {t} e = rw (eq-eqb t 256 e)
+
+pub unmark-to : {t : ℕ} → (t ≡ 256 → ⊥) → unmark t ≡ to t
+unfolding unmark
+unmark-to {t} n = rw (ne-eqb t 256 n)
+
+pub target-past : (g : List (List ℕ)) (q x : ℕ) → 256 ≤ q → unmark 256 ≡ cellAt g q x
+unfolding cellAt unmark both
+target-past g q x h = rw (le-ltb q 256 h)
+
+pub target-no-action : (g : List (List ℕ)) (q x : ℕ) → 8 ≤ x → unmark 256 ≡ cellAt g q x
+unfolding cellAt unmark
+target-no-action g q x h = rw (both-false (ltb q 256) _ (le-ltb x 8 h))
+
+pub target-in : (g : List (List ℕ)) (q x r : ℕ) → q < 256 → x < 8 → r ≡ getD (getD g q []) x 0 → unmark r ≡ cellAt g q x
+unfolding cellAt
+target-in g q x r h k e = rw (both-true _ _ (lt-ltb q 256 h) (lt-ltb x 8 k), e)
+
+-- what has fallen
+
+pub fallen-past : (n k : ℕ) (marks : List ℕ) → length marks ≤ k → false ≡ fallenBy n marks k
+unfolding fallenBy
+fallen-past n k marks h =
+    let e : getD marks k 0 ≡ 0 = List·getD-eq-default marks 0 h in
+    sym (both-none _ _ (le-ltb 0 (getD marks k 0) (omega arith)))
+
+pub fallen-none : (n k : ℕ) (marks : List ℕ) {m : ℕ} → m ≡ getD marks k 0 → m ≡ 0 → false ≡ fallenBy n marks k
+unfolding fallenBy
+fallen-none n k marks {m} e z = sym (both-none _ _ (le-ltb 0 (getD marks k 0) (omega arith)))
+
+pub fallen-marked : (n k : ℕ) (marks : List ℕ) → (getD marks k 0 ≡ 0 → ⊥) → leb (getD marks k 0) n ≡ fallenBy n marks k
+unfolding fallenBy
+fallen-marked n k marks z =
+    sym (both-second _ _ (lt-ltb 0 (getD marks k 0) (omega arith)))
+
+-- the position after this one
+pub next-line : (f : List ℕ) (q : ℕ) {x y : ℕ} → x ≡ getD f q 0 → y ≡ getD f (q + 1) 0 → (h w : ℕ)
+    → record { blocked = false; action = h; rest = w; first = x; end = y } ≡ movesFrom f h w q
+next-line f q e d h w = rw (e, d, add-one q)
+
+pub ruleset leaves = (needs, target-past, target-no-action, target-in, fallen-past, fallen-none, fallen-marked, next-line)
+
+-- choosing
+
+-- a safe position exists
+safe-position : (p : List ℕ) (q : ℕ) → safeAt p q ≡ true → q < length p
+unfolding safeAt kindAt isSafe
+safe-position p q e =
+    ⊎-elim
+    (λ (h : q < length p). h)
+    (λ (h : length p ≤ q). absurd (not-both (rw (le-ltb q (length p) h) at e) refl))
+    (below? q (length p))
+
+pub safe-small : (p : List ℕ) (q : ℕ) {r : Bool} → r ≡ safeAt p q → not r ≡ false → length p ≤ 256 → q < 256
+safe-small p q {r} e n h = let k = safe-position p q (sym e ∙ not-false r n) in omega arith
+
+module _ (p : List ℕ) (g : List (List ℕ)) (f : List ℕ) (l : Level) (q w c : ℕ) (x : Choice) where
+  abbrev joined : ℕ
+  joined = w * l .actions + c
+
+  abbrev oldest : ℕ
+  oldest = joined / l .power
+
+  abbrev younger : ℕ
+  younger = joined % l .power
+
+  pub choose-odd : l .odd ≡ true → x ≡ movesFrom f oldest younger q → x .end < 65536 → 0 < l .power → Chosen p g f l q w c x
+  unfolding choiceAt playedAt
+  choose-odd o e n m = record { choice = rw o e; end-small = n; rest-word = rw e (mod-lt joined m) }
+
+  pub choose-absent : {t : ℕ} → l .odd ≡ false → unmark t ≡ cellAt g q oldest → t ≡ 256 → x ≡ blockedAt oldest younger → 0 < l .power
+      → Chosen p g f l q w c x
+  unfolding choiceAt playedAt movesAfter
+  choose-absent {t} o u a e m =
+      record {
+        choice = rw (o, ← u, unmark-absent a) e;
+        end-small = rw e (omega arith);
+        rest-word = rw e (mod-lt joined m);
+      }
+
+  pub choose-unsafe : {t : ℕ} {r : Bool} → l .odd ≡ false → unmark t ≡ cellAt g q oldest → (t ≡ 256 → ⊥) → r ≡ safeAt p t → not r ≡ true
+      → x ≡ blockedAt oldest younger → 0 < l .power → Chosen p g f l q w c x
+  unfolding choiceAt playedAt movesAfter
+  choose-unsafe {t} {r} o u a s n e m =
+      record {
+        choice = rw (o, ← u, unmark-to a, ← s, not-true r n) e;
+        end-small = rw e (omega arith);
+        rest-word = rw e (mod-lt joined m);
+      }
+
+  pub choose-even : {t : ℕ} {r : Bool} → l .odd ≡ false → unmark t ≡ cellAt g q oldest → (t ≡ 256 → ⊥) → r ≡ safeAt p t → not r ≡ false
+      → x ≡ movesFrom f oldest younger t → x .end < 65536 → 0 < l .power → Chosen p g f l q w c x
+  unfolding choiceAt playedAt movesAfter
+  choose-even {t} {r} o u a s n e d m =
+      record {
+        choice = rw (o, ← u, unmark-to a, ← s, not-false r n) e;
+        end-small = d;
+        rest-word = rw e (mod-lt joined m);
+      }
+
+pub ruleset choosing = (needs, safe-small, choose-odd, choose-absent, choose-unsafe, choose-even)
+
+-- one line
+
+module _ (p : List ℕ) (g : List (List ℕ)) (u : List ℕ) (l : Level) (fallen : ℕ → Bool) (x : Choice) (line : ℕ) where
+  pub spoils-even : {b t : ℕ} {r : Bool} → not (l .odd) ≡ true → b ≡ getD u (2 * line + 1) 0 → t ≡ b → r ≡ fallen (t * l .power + x .rest)
+      → r ≡ bad fallen (outcomeAt p g l x (toAt u line))
+  unfolding outcomeAt outcomeBy bad toAt
+  spoils-even {b} {t} {r} o e d f = rw (not-true (l .odd) o, ← e, ← d) f
+
+  pub spoils-unsafe : {b t : ℕ} {s : Bool} → not (l .odd) ≡ false → b ≡ getD u (2 * line + 1) 0 → t ≡ b → s ≡ safeAt p t → not s ≡ true
+      → true ≡ bad fallen (outcomeAt p g l x (toAt u line))
+  unfolding outcomeAt outcomeBy bad toAt
+  spoils-unsafe {b} {t} {s} o e d a n = rw (not-false (l .odd) o, ← e, ← d, ← a, not-true s n)
+
+  pub spoils-absent : {b t q : ℕ} {s : Bool} → not (l .odd) ≡ false → b ≡ getD u (2 * line + 1) 0 → t ≡ b → s ≡ safeAt p t
+      → not s ≡ false → unmark q ≡ cellAt g t (x .action) → q ≡ 256 → true ≡ bad fallen (outcomeAt p g l x (toAt u line))
+  unfolding outcomeAt outcomeBy bad toAt withWord
+  spoils-absent {b} {t} {q} {s} o e d a n m z =
+      rw (not-false (l .odd) o, ← e, ← d, ← a, not-false s n, ← m, unmark-absent z)
+
+  pub spoils-odd : {b t q : ℕ} {s r : Bool} → not (l .odd) ≡ false → b ≡ getD u (2 * line + 1) 0 → t ≡ b → s ≡ safeAt p t
+      → not s ≡ false → unmark q ≡ cellAt g t (x .action) → (q ≡ 256 → ⊥) → r ≡ fallen (q * l .power + x .rest)
+      → r ≡ bad fallen (outcomeAt p g l x (toAt u line))
+  unfolding outcomeAt outcomeBy bad toAt withWord
+  spoils-odd {b} {t} {q} {s} {r} o e d a n m z f =
+      rw (not-false (l .odd) o, ← e, ← d, ← a, not-false s n, ← m, unmark-to z) f
+
+pub ruleset spoiling = (needs, spoils-even, spoils-unsafe, spoils-absent, spoils-odd)
+
+-- the walk: what is left of a choice's lines, from one on
+
+unfoldable pub spoiltFrom : List ℕ → List (List ℕ) → List ℕ → Level → (ℕ → Bool) → Choice → ℕ → Bool
+spoiltFrom p g u l fallen x line = anyOf (λ r. bad fallen (outcomeAt p g l x r)) (tosBetween u line (x .end))
+
+module _ (p : List ℕ) (g : List (List ℕ)) (u : List ℕ) (l : Level) (fallen : ℕ → Bool) (x : Choice) (line : ℕ) where
+  pub from-end : x .end ≤ line → spoiltFrom p g u l fallen x line ≡ false
+  unfolding spoiltFrom tosBetween
+  from-end h = rw (tabulate-none (toAt u) line (x .end) h) (any-of-nil _)
+
+  from-next : line < x .end
+      → spoiltFrom p g u l fallen x line
+      ≡ either (bad fallen (outcomeAt p g l x (toAt u line))) (spoiltFrom p g u l fallen x (line + 1))
+  unfolding spoiltFrom tosBetween
+  from-next h = rw (tabulate-next (toAt u) line (x .end) h) (any-of-cons _ _ _)
+
+  pub from-spoilt : {r : Bool} → line < x .end → r ≡ bad fallen (outcomeAt p g l x (toAt u line)) → r ≡ true
+      → spoiltFrom p g u l fallen x line ≡ true
+  from-spoilt h e t = from-next h ∙ either-left _ _ (sym e ∙ t)
+
+  pub from-passed : {r : Bool} → line < x .end → r ≡ bad fallen (outcomeAt p g l x (toAt u line)) → r ≡ false
+      → spoiltFrom p g u l fallen x line ≡ spoiltFrom p g u l fallen x (line + 1)
+  from-passed h e t = from-next h ∙ either-second _ _ (sym e ∙ t)
+
+-- a choice is spoilt if it is blocked or one of its lines spoils it
+
+unfoldable pub spoiltWith : List ℕ → List (List ℕ) → List ℕ → Level → (ℕ → Bool) → Choice → Bool
+spoiltWith p g u l fallen x = either (x .blocked) (spoiltFrom p g u l fallen x (x .first))
+
+module _ (p : List ℕ) (g : List (List ℕ)) (u f : List ℕ) (l : Level) (fallen : ℕ → Bool) where
+  abbrev view : Game
+  view = viewOf p g u f (l .start) (l .actions)
+
+  odd-spoilt : (q h w : ℕ) → l .odd ≡ true
+      → anyOf (bad fallen) (map (movedTo view (l .power) h w) (view .moves q)) ≡ spoiltWith p g u l fallen (movesFrom f h w q)
+  unfolding spoiltWith spoiltFrom outcomeAt outcomeBy viewOf movedTo either
+  odd-spoilt q h w o = rw o (any-of-map (bad fallen) _ _)
+
+  even-spoilt : (h w : ℕ) (t : Target) → l .odd ≡ false
+      → anyOf (bad fallen) (playedTo view (l .power) w t) ≡ spoiltWith p g u l fallen (movesAfter p f h w t)
+  unfolding spoiltWith spoiltFrom outcomeAt outcomeBy viewOf playedTo movesAfter either bad anyOf
+  even-spoilt h w absent o = refl
+  even-spoilt h w (to r) o =
+      ⊎-elim
+      (λ (s : safeAt p r ≡ true).
+      rw (s, o) (any-of-map (bad fallen) (λ r′. to (r′ * l .power + w)) (tosBetween u (getD f r 0) (getD f (suc r) 0))))
+      (λ (s : safeAt p r ≡ false). rw s)
+      (bool (safeAt p r))
+
+  by-parity : (q j : ℕ) (b : Bool) → l .odd ≡ b
+      → anyOf (bad fallen) (outcomes b view (l .power) q j)
+      ≡ spoiltWith p g u l fallen (playedAt b p g f q (j / l .power) (j % l .power))
+  unfolding outcomes playedAt viewOf
+  by-parity q j true o = odd-spoilt q (j / l .power) (j % l .power) o
+  by-parity q j false o = even-spoilt (j / l .power) (j % l .power) _ o
+
+  -- theory's `spoiltBy`, by the choice that the code makes
+  pub chosen : (k c : ℕ) {x : Choice} → Chosen p g f l (k / l .power) (k % l .power) c x
+      → spoiltBy (arenaOf p g u f l) fallen k c ≡ spoiltWith p g u l fallen x
+  unfolding spoiltBy arenaOf levelArena viewOf choiceAt
+  chosen k c {x} h =
+      by-parity (k / l .power) ((k % l .power) * l .actions + c) (l .odd) refl
+      ∙ ap (spoiltWith p g u l fallen) (sym (h .choice))
+
+module _ (p : List ℕ) (g : List (List ℕ)) (u f : List ℕ) (l : Level) (fallen : ℕ → Bool) (k : ℕ) where
+  abbrev S : ℕ → Bool
+  S = spoiltBy (arenaOf p g u f l) fallen k
+
+  -- one action
+
+  pub spoilt-blocked : (c : ℕ) {x : Choice} → Chosen p g f l (k / l .power) (k % l .power) c x → x .blocked ≡ true → true ≡ S c
+  unfolding spoiltWith
+  spoilt-blocked c h b = sym (chosen p g u f l fallen k c h ∙ either-left _ _ b)
+
+  pub spoilt-open : (c : ℕ) {x : Choice} → Chosen p g f l (k / l .power) (k % l .power) c x → x .blocked ≡ false
+      → S c ≡ spoiltFrom p g u l fallen x (x .first)
+  unfolding spoiltWith
+  spoilt-open c h b = chosen p g u f l fallen k c h ∙ either-second _ _ b
+
+  -- all actions: a blocked one is passed
+
+  pub walk-blocked : (c : ℕ) {x : Choice} → allBelow S c ≡ true → Chosen p g f l (k / l .power) (k % l .power) c x → x .blocked ≡ true
+      → allBelow S (c + 1) ≡ true
+  walk-blocked c e h b = all-again S c e (spoilt-blocked c h b) refl
+
+  pub walk-open : (c : ℕ) {x : Choice} → allBelow S c ≡ true → Chosen p g f l (k / l .power) (k % l .power) c x → x .blocked ≡ false
+      → allBelow S (c + 1) ≡ spoiltFrom p g u l fallen x (x .first)
+  walk-open c e h b = rw (add-one c, all-suc S c) (both-second _ _ e ∙ spoilt-open c h b)
+
+  -- the first spoiling line ends an action, a line that passes goes on, and an action without one ends the walk
+
+  pub walk-spoilt : (c line : ℕ) (x : Choice) {r : Bool} → allBelow S c ≡ spoiltFrom p g u l fallen x line → line < x .end
+      → r ≡ bad fallen (outcomeAt p g l x (toAt u line)) → r ≡ true → allBelow S c ≡ true
+  walk-spoilt c line x e h b t = e ∙ from-spoilt p g u l fallen x line h b t
+
+  pub walk-passed : (c line : ℕ) (x : Choice) {r : Bool} → allBelow S c ≡ spoiltFrom p g u l fallen x line → line < x .end
+      → r ≡ bad fallen (outcomeAt p g l x (toAt u line)) → r ≡ false → allBelow S c ≡ spoiltFrom p g u l fallen x (line + 1)
+  walk-passed c line x e h b t = e ∙ from-passed p g u l fallen x line h b t
+
+  pub walk-kept : (c n line : ℕ) (x : Choice) → allBelow S (c + 1) ≡ spoiltFrom p g u l fallen x line → x .end ≤ line → c < n
+      → false ≡ allBelow S n
+  walk-kept c n line x e h m = sym (all-short S (omega arith) (e ∙ from-end p g u l fallen x line h))
+
+  pub walk-done : (c n : ℕ) → allBelow S c ≡ true → c ≤ n → n ≤ c → true ≡ allBelow S n
+  walk-done c n e h m = sym (all-done S h m e)
+
+  -- the same for one action
+
+  pub line-spoilt : (c line : ℕ) (x : Choice) {r : Bool} → S c ≡ spoiltFrom p g u l fallen x line → line < x .end
+      → r ≡ bad fallen (outcomeAt p g l x (toAt u line)) → r ≡ true → true ≡ S c
+  line-spoilt c line x e h b t = sym (e ∙ from-spoilt p g u l fallen x line h b t)
+
+  pub line-passed : (c line : ℕ) (x : Choice) {r : Bool} → S c ≡ spoiltFrom p g u l fallen x line → line < x .end
+      → r ≡ bad fallen (outcomeAt p g l x (toAt u line)) → r ≡ false → S c ≡ spoiltFrom p g u l fallen x (line + 1)
+  line-passed c line x e h b t = e ∙ from-passed p g u l fallen x line h b t
+
+  pub line-kept : (c line : ℕ) (x : Choice) → S c ≡ spoiltFrom p g u l fallen x line → x .end ≤ line → false ≡ S c
+  line-kept c line x e h = sym (e ∙ from-end p g u l fallen x line h)
+
+-- a node's position
+pub node-small : {k m n p : ℕ} → k < n → n ≡ p * m → p ≤ 256 → 0 < m → k / m < 256
+node-small {k} {m} {n} {p} h e s z =
+    let b : k / m < p = div-lt-iff-lt-mul z .1 (rw e at h) in omega arith
+
+pub word-small : (k : ℕ) {m : ℕ} → 0 < m → k % m < m
+word-small k z = mod-lt k z
+
+pub ruleset walking = (needs, node-small, word-small, spoilt-blocked, spoilt-open, line-spoilt, line-passed, line-kept)
+
+pub ruleset walks = (needs, node-small, word-small, all-none, walk-blocked, walk-open, walk-spoilt, walk-passed, walk-kept, walk-done)

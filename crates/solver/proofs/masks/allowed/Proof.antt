@@ -1,0 +1,64 @@
+-- `allowed` meets its contract. The mask has the bits of the actions passed. Assumes nothing.
+use Prim.Native.Nat.{_-_, _≤_, _^_}
+use mathlib.Core.Path.{_≡_}
+use mathlib.Core.Logic.{⊎-elim}
+use borrow.Author.Needs.{needs}
+use Rattle.solver.specs.View.{arenaOf}
+use Rattle.solver.proofs.MaskLaws.{allowedBelow, bits, bits-set, bits-kept, bit-next}
+use Rattle.solver.proofs.masks.allowed.Statement.{statement}
+use Rattle.solver.proofs.masks.allowed.Tie as tie
+
+abbrev Inv-loop : tie.InvT-loop
+Inv-loop p grid u firsts level ranks n k mask₀ bit₀ c₀ mask bit c = (c ≤ level .actions) × (mask ≡ allowedBelow (arenaOf p grid u firsts level) n ranks k c) × (bit ≡ 2 ^ c)
+
+abbrev μ-loop : tie.MeasureT-loop
+μ-loop p grid u firsts level ranks n k mask₀ bit₀ c₀ mask bit c = level .actions - c
+
+loop-holds : tie.Need-loop-holds Inv-loop μ-loop
+loop-holds c = search bits
+
+spoilt-requires : tie.Need-spoilt-requires Inv-loop μ-loop
+spoilt-requires c κs = search bits
+
+add-mask : tie.Need-add-mask Inv-loop μ-loop
+add-mask c = search bits
+
+mul-bit : tie.Need-mul-bit Inv-loop μ-loop
+mul-bit c = search bits
+
+add-c : tie.Need-add-c Inv-loop μ-loop
+add-c c = search bits
+
+loop-less : tie.Need-loop-less Inv-loop μ-loop
+loop-less c = search bits
+
+loop-again : tie.Need-loop-again Inv-loop μ-loop
+loop-again c =
+    let l = c .before .before .before .before .loop in
+    let r = c .before .spoilt .ensures in
+    ⊎-elim
+    (λ w. (search needs, bits-set _ _ _ _ (l .c) (w .1) (l .inv .1) (l .inv .2) r (w .0 .taken), bit-next (l .c) (l .inv .2)))
+    (λ w. (search needs, bits-kept _ _ _ _ (l .c) (w .1) (l .inv .1) r (w .0 .left), bit-next (l .c) (l .inv .2)))
+    (c .if2 .came)
+
+cast-result : tie.Need-cast-result Inv-loop μ-loop
+cast-result c = search bits
+
+returns : tie.Need-returns Inv-loop μ-loop
+returns c = search bits
+
+pub allowed-spec : {M : Type 1} → statement M
+allowed-spec =
+    tie.close
+    (tie.spec
+    Inv-loop
+    μ-loop
+    loop-holds
+    spoilt-requires
+    add-mask
+    mul-bit
+    add-c
+    loop-less
+    loop-again
+    cast-result
+    returns)

@@ -1,0 +1,100 @@
+use Prim.Native.Nat.{_-_, _≤_}
+use mathlib.Core.Path.{_≡_, _∙_, ap}
+use mathlib.Core.Logic.{⊎-elim}
+use native.Mathlib.Omega.{arith}
+use lib.ListN.{length, length-set}
+use Rattle.theory.specs.Fold.{anyBelow}
+use Rattle.theory.specs.Rounds.{rankIn}
+use Rattle.solver.specs.View.{arenaOf}
+use Rattle.solver.specs.Strikes.{strikes}
+use Rattle.solver.proofs.Filling.{filled}
+use Rattle.solver.proofs.RoundLaws.{round-struck, round-kept, any-struck, any-kept, rounding}
+use Rattle.solver.proofs.rounds.round.Statement.{statement}
+use Rattle.solver.proofs.rounds.round.Tie as tie
+use Rattle.solver.proofs.rounds.round.Reads as reads
+use Rattle.solver.proofs.rounds.round.Lts as lts
+use Rattle.solver.proofs.rounds.struck.Reads as struck-reads
+
+abbrev Inv-loop : tie.InvT-loop
+Inv-loop p grid u firsts level ranks₀ n any₀ k₀ ranks any k =
+    (k ≤ level .nodes)
+    × (length ranks ≡ length ranks₀)
+    × (ranks ≡ filled (rankIn (arenaOf p grid u firsts level) n ranks₀) k ranks₀)
+    × (any ≡ anyBelow (strikes (arenaOf p grid u firsts level) n ranks₀) k)
+
+abbrev μ-loop : tie.MeasureT-loop
+μ-loop p grid u firsts level ranks₀ n any₀ k₀ ranks any k = level .nodes - k
+
+-- src/rounds.rt:90:5
+loop-holds : tie.Need-loop-holds Inv-loop μ-loop
+loop-holds c = search rounding
+
+-- src/rounds.rt:91:12
+struck-requires : tie.Need-struck-requires Inv-loop μ-loop
+struck-requires c κs = search rounding
+
+-- src/rounds.rt:92:24
+add-ranks : tie.Need-add-ranks Inv-loop μ-loop
+add-ranks c = search rounding
+
+-- src/rounds.rt:92:13
+mul-ranks : tie.Need-mul-ranks Inv-loop μ-loop
+mul-ranks c = search rounding
+
+-- src/rounds.rt:92:13
+slice-write-ranks : tie.Need-slice-write-ranks Inv-loop μ-loop
+slice-write-ranks c = search rounding
+
+-- src/rounds.rt:95:9
+add-k : tie.Need-add-k Inv-loop μ-loop
+add-k c = search rounding
+
+-- src/rounds.rt:90:5
+loop-less : tie.Need-loop-less Inv-loop μ-loop
+loop-less c = search rounding
+
+-- src/rounds.rt:90:5
+loop-again : tie.Need-loop-again Inv-loop μ-loop
+loop-again c =
+    let i = c .before .before .before .before .before .before .before .before .before .pre in
+    let v = c .before .before .before .before .before .loop .inv in
+    let r = c .before .struck .ensures in
+    ⊎-elim
+    (λ w. (
+      omega arith,
+      ap length (w .1) ∙ simp length-set (v .1),
+      w .1 ∙ round-struck _ _ _ _ (i .2) (i .3) (v .2) r (w .0 .taken) (omega arith),
+      w .2 ∙ any-struck _ _ _ _ (i .2) (i .3) (v .2) r (w .0 .taken),
+    ))
+    (λ w. (
+      omega arith,
+      ap length (w .1) ∙ v .1,
+      w .1 ∙ round-kept _ _ _ _ (i .2) (i .3) (v .2) r (w .0 .left) (omega arith),
+      w .2 ∙ any-kept _ _ _ _ (i .2) (i .3) (v .2) r (v .3) (w .0 .left),
+    ))
+    (c .if2 .came)
+
+-- src/rounds.rt:76:1
+same-length : tie.Need-same-length Inv-loop μ-loop
+same-length c = search rounding
+
+-- src/rounds.rt:76:1
+returns : tie.Need-returns Inv-loop μ-loop
+returns c = search rounding
+
+pub round-spec : {M : Type 1} → statement M
+round-spec =
+    tie.close
+    (tie.spec
+    Inv-loop
+    μ-loop
+    loop-holds
+    struck-requires
+    add-ranks
+    mul-ranks
+    slice-write-ranks
+    add-k
+    loop-less
+    loop-again
+    same-length
+    returns)

@@ -1,0 +1,69 @@
+use Prim.Native.Nat.{_+_, _≤_}
+use mathlib.Core.Path.{_≡_}
+use lib.ListN.{length}
+use Rattle.theory.specs.Rounds.{ranksAfter}
+use Rattle.solver.specs.View.{arenaOf}
+use Rattle.solver.proofs.RoundLaws.{standing, allRounds}
+use Rattle.solver.proofs.rounds.rounds.Statement.{statement}
+use Rattle.solver.proofs.rounds.rounds.Tie as tie
+use Rattle.solver.proofs.rounds.rounds.Reads as reads
+use Rattle.solver.proofs.rounds.rounds.Lts as lts
+use Rattle.solver.proofs.rounds.first_round.Reads as first-round-reads
+use Rattle.solver.proofs.rounds.round.Reads as round-reads
+
+abbrev Inv-loop : tie.InvT-loop
+Inv-loop p grid u firsts level ranks₀ n₀ ranks n =
+    (1 ≤ n)
+    × (n + standing ranks (level .nodes) ≤ level .nodes + 1)
+    × (length ranks ≡ level .nodes)
+    × (ranks ≡ ranksAfter (arenaOf p grid u firsts level) n)
+
+abbrev μ-loop : tie.MeasureT-loop
+μ-loop p grid u firsts level ranks₀ n₀ ranks n = standing ranks (level .nodes)
+
+-- src/rounds.rt:111:5
+first-round-requires : tie.Need-first-round-requires Inv-loop μ-loop
+first-round-requires c κs = search allRounds
+
+-- src/rounds.rt:113:9
+loop-holds : tie.Need-loop-holds Inv-loop μ-loop
+loop-holds c = search allRounds
+
+-- src/rounds.rt:114:13
+round-requires : tie.Need-round-requires Inv-loop μ-loop
+round-requires c κs = search allRounds
+
+-- src/rounds.rt:117:9
+add-n : tie.Need-add-n Inv-loop μ-loop
+add-n c = search allRounds
+
+-- src/rounds.rt:113:9
+loop-less : tie.Need-loop-less Inv-loop μ-loop
+loop-less c = search allRounds
+
+-- src/rounds.rt:113:9
+loop-again : tie.Need-loop-again Inv-loop μ-loop
+loop-again c = search allRounds
+
+-- src/rounds.rt:100:1
+same-length : tie.Need-same-length Inv-loop μ-loop
+same-length c = search allRounds
+
+-- src/rounds.rt:100:1
+returns : tie.Need-returns Inv-loop μ-loop
+returns c = search allRounds
+
+pub rounds-spec : {M : Type 1} → statement M
+rounds-spec =
+    tie.close
+    (tie.spec
+    Inv-loop
+    μ-loop
+    first-round-requires
+    loop-holds
+    round-requires
+    add-n
+    loop-less
+    loop-again
+    same-length
+    returns)

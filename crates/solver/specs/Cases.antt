@@ -1,0 +1,96 @@
+-- Document 01's starred solver cases ("Yards to try") over bytes, and refusals: the table that proofs/Cases.antt computes. Every buffer
+-- holds nines before. Assumes nothing.
+use Prim.Native.Nat.{ℕ, _+_}
+use mathlib.Core.List.{List, [], _∷_, _++_}
+use lib.ListN.{length, replicate}
+use Rattle.theory.specs.Answer.{Answer, refused, accepted, onAccepted}
+use Rattle.theory.specs.Delay.{Verdict, wins, losing}
+use Rattle.sheet.specs.Cases.{sheetWith}
+use Rattle.solver.specs.Solving.{solveAnswer, masksAfter, ranksLeft}
+
+-- what solving says and leaves
+pub record Outcome : Type 0 where
+  pub answer : Answer Verdict
+  pub masks : List ℕ
+  pub ranks : List ℕ
+
+-- buffers of so many entries
+unfoldable pub outcome : List ℕ → ℕ → ℕ → Outcome
+outcome s masks ranks =
+    let r = solveAnswer s masks ranks in
+    record {
+      answer = onAccepted r (λ a. accepted (a .verdict));
+      masks = masksAfter s r (replicate masks 9);
+      ranks = ranksLeft s r (replicate ranks 9);
+    }
+
+pub record Case : Type 0 where
+  pub sheet : List ℕ
+  pub masks-room : ℕ
+  pub ranks-room : ℕ
+  pub outcome : Outcome
+
+-- solved, with one entry beyond those owed in the mask buffer and two in the rank buffer
+unfoldable pub solved : List ℕ → Verdict → List ℕ → List ℕ → Case
+solved s v masks ranks =
+    record {
+      sheet = s;
+      masks-room = length masks + 1;
+      ranks-room = length ranks + 2;
+      outcome = record { answer = accepted v; masks = masks ++ (9 ∷ []); ranks = ranks ++ (9 ∷ 9 ∷ []) };
+    }
+
+unfoldable pub unsolved : List ℕ → ℕ → ℕ → ℕ → Case
+unsolved s masks ranks n =
+    record {
+      sheet = s;
+      masks-room = masks;
+      ranks-room = ranks;
+      outcome = record { answer = refused n; masks = replicate masks 9; ranks = replicate ranks 9 };
+    }
+
+-- the yards, at a lag
+unfoldable pub guess : List ℕ → ℕ → List ℕ
+guess p d = sheetWith (0 ∷ 2 ∷ d ∷ []) p (0 ∷ 0 ∷ 2 ∷ 0 ∷ 1 ∷ 3 ∷ 1 ∷ 0 ∷ 3 ∷ 1 ∷ 1 ∷ 2 ∷ []) (2 ∷ 0 ∷ 2 ∷ 1 ∷ 3 ∷ 0 ∷ [])
+
+unfoldable pub splitGate : ℕ → List ℕ
+splitGate d = sheetWith (0 ∷ 2 ∷ d ∷ []) (0 ∷ 0 ∷ 2 ∷ []) (0 ∷ 0 ∷ 2 ∷ 1 ∷ 1 ∷ 2 ∷ []) (2 ∷ 0 ∷ 2 ∷ 1 ∷ [])
+
+unfoldable pub loop : ℕ → List ℕ
+loop d = sheetWith (0 ∷ 1 ∷ d ∷ []) (0 ∷ 2 ∷ []) (0 ∷ 0 ∷ 1 ∷ []) (1 ∷ 0 ∷ [])
+
+unfoldable pub hall : ℕ → List ℕ
+hall d =
+    sheetWith (0 ∷ 2 ∷ d ∷ []) (0 ∷ 0 ∷ 0 ∷ 0 ∷ 2 ∷ 2 ∷ 2 ∷ [])
+    (0 ∷ 0 ∷ 4 ∷ 0 ∷ 1 ∷ 4 ∷ 1 ∷ 0 ∷ 5 ∷ 1 ∷ 1 ∷ 5 ∷ 2 ∷ 0 ∷ 6 ∷ 3 ∷ 1 ∷ 6 ∷ [])
+    (4 ∷ 2 ∷ 5 ∷ 3 ∷ 6 ∷ 0 ∷ 6 ∷ 1 ∷ [])
+
+abbrev pub safe : List ℕ
+safe = 0 ∷ 0 ∷ 2 ∷ 3 ∷ []
+
+unfoldable pub cases : List Case
+cases =
+    solved (guess safe 0) wins (1 ∷ 2 ∷ 0 ∷ 0 ∷ []) (0 ∷ 0 ∷ 0 ∷ 0 ∷ [])
+    ∷ solved (guess (1 ∷ 0 ∷ 2 ∷ 3 ∷ []) 1) (losing 0) (0 ∷ 0 ∷ 0 ∷ 0 ∷ []) (1 ∷ 2 ∷ 0 ∷ 0 ∷ [])
+    ∷ solved (splitGate 1) (losing 1) (0 ∷ 0 ∷ 0 ∷ []) (0 ∷ 0 ∷ 2 ∷ [])
+    ∷ solved (loop 6) wins (1 ∷ 0 ∷ []) (0 ∷ 0 ∷ [])
+    ∷ solved (loop 5) wins (0 ∷ 1 ∷ []) (0 ∷ 0 ∷ [])
+    ∷ solved (hall 2) wins (1 ∷ 1 ∷ 2 ∷ 2 ∷ 3 ∷ 0 ∷ 0 ∷ 3 ∷ 0 ∷ 0 ∷ 0 ∷ 0 ∷ 0 ∷ 0 ∷ []) (0 ∷ 0 ∷ 0 ∷ 0 ∷ 0 ∷ 2 ∷ 2 ∷ 0 ∷ 0 ∷ 0 ∷ 0 ∷ 0 ∷ 0 ∷ 0 ∷ [])
+    ∷ solved (hall 3) (losing 3) (replicate 14 0) (0 ∷ 0 ∷ 0 ∷ 0 ∷ 0 ∷ 0 ∷ 0 ∷ 0 ∷ 4 ∷ 2 ∷ 2 ∷ 4 ∷ 3 ∷ 3 ∷ [])
+    -- asked at lag 2, which has 8 pairs, losing at 1, which has 4: the other 4 are untouched
+    ∷ record {
+      sheet = guess safe 2;
+      masks-room = 8;
+      ranks-room = 8;
+      outcome =
+          record {
+            answer = accepted (losing 1);
+            masks = 0 ∷ 0 ∷ 0 ∷ 0 ∷ 9 ∷ 9 ∷ 9 ∷ 9 ∷ [];
+            ranks = 0 ∷ 0 ∷ 2 ∷ 1 ∷ 9 ∷ 9 ∷ 9 ∷ 9 ∷ [];
+          };
+    }
+    -- lag 7; a buffer too short at the asked lag, though not at the losing one
+    ∷ unsolved (loop 7) 4 4 3
+    ∷ unsolved (guess safe 2) 7 8 8
+    ∷ unsolved (guess safe 2) 8 7 8
+    ∷ []

@@ -1,0 +1,36 @@
+-- The flags of first words that ranks give, for those who make tables and listings. Assumes nothing.
+use Prim.Native.Nat.{ℕ}
+use mathlib.Core.Bool.{cond}
+use mathlib.Core.List.{List}
+use lib.Dec.{leb}
+use lib.ListN.{length}
+use Rattle.theory.specs.Fold.{tabulate}
+use Rattle.theory.specs.Answer.{Answer, refused, accepted}
+use Rattle.theory.specs.Game.{Game}
+use Rattle.theory.specs.Delay.{initialWords, goodWith}
+use Rattle.sheet.specs.Reading.{readAnswer, delayOf}
+use Rattle.sheet.specs.Meant.{gameOf}
+use Rattle.sheet.specs.declared.reading.Layout.{Layout}
+use Rattle.solver.specs.declared.level.Level.{Level}
+use Rattle.solver.specs.Strikes.{goodIn}
+use Rattle.solver.specs.Solving.{over}
+
+-- "1 if good, else 0", by any ranks
+unfoldable pub flagWith : Game → ℕ → List ℕ → ℕ → ℕ
+flagWith G d ranks v = cond (goodWith G d ranks v) 1 0
+
+-- the same over the solver's arrays
+unfoldable pub flagIn : List ℕ → List (List ℕ) → Level → List ℕ → ℕ → ℕ
+flagIn p g l ranks v = cond (goodIn p g l ranks v) 1 0
+
+-- how many flags are written: one for each first word of an accepted sheet, where there is room for all; else none
+unfoldable pub countIn : Answer Layout → ℕ → ℕ → ℕ
+countIn (refused n) words room = 0
+countIn (accepted l) words room = cond (leb words room) words 0
+
+unfoldable pub flagsCount : List ℕ → ℕ → ℕ
+flagsCount s room = countIn (readAnswer s) (initialWords (gameOf s) (delayOf s)) room
+
+-- "in base-A order"; entries beyond are left
+unfoldable pub flagsAfter : List ℕ → List ℕ → List ℕ → List ℕ
+flagsAfter s ranks buffer = over (tabulate (flagWith (gameOf s) (delayOf s) ranks) 0 (flagsCount s (length buffer))) buffer

@@ -1,0 +1,19 @@
+-- `words_at` meets its contract, by the laws of SizeLaws.antt. Assumes nothing.
+use Rattle.table.proofs.SizeLaws.{sizes}
+use Rattle.table.proofs.sizes.words_at.Statement.{statement}
+use Rattle.table.proofs.sizes.words_at.Tie as tie
+
+wide-requires : tie.Need-wide-requires
+wide-requires c κs = search sizes
+
+add-power : tie.Need-add-power
+add-power c = search sizes
+
+power-requires : tie.Need-power-requires
+power-requires c κs = search sizes
+
+returns : tie.Need-returns
+returns c = search sizes
+
+pub words-at-spec : {M : Type 1} → statement M
+words-at-spec = tie.close (tie.spec wide-requires add-power power-requires returns)
