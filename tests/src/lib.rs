@@ -1,4 +1,5 @@
 //! What the tests share: the proved library as Rust functions, yard sheets to feed it, and a naive solver to compare it with.
+pub mod cabin;
 pub mod counts;
 pub mod naive;
 pub mod proved;

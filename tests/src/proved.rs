@@ -12,6 +12,22 @@ extern "C" {
         ranks_len: usize,
         losing: *mut u8,
     ) -> u8;
+    fn lq_make(
+        sheet: *const u8,
+        sheet_len: usize,
+        masks: *mut u8,
+        masks_len: usize,
+        ranks: *mut u16,
+        ranks_len: usize,
+        out: *mut u8,
+        out_len: usize,
+        size: *mut usize,
+        losing: *mut u8,
+    ) -> u8;
+    fn lq_masks(sheet: *const u8, sheet_len: usize, place: *mut usize) -> u8;
+    fn lq_open(sheet: *const u8, sheet_len: usize, state: *mut u8) -> u8;
+    fn lq_observe(sheet: *const u8, sheet_len: usize, state: *mut u8, index: usize, position: u8) -> u8;
+    fn lq_act(sheet: *const u8, sheet_len: usize, state: *mut u8, action: *mut u8) -> u8;
 }
 
 /// What `lq_solve` leaves in `losing` where the asked lag wins.
@@ -34,6 +50,10 @@ pub fn read(sheet: &[u8]) -> Result<Read, u8> {
     })
 }
 
+fn losing_lag(losing: u8) -> Option<u8> {
+    if losing == WINS { None } else { Some(losing) }
+}
+
 /// None where the asked lag wins, the losing lag, or the refusal's number.
 pub fn solve(sheet: &[u8], masks: &mut [u8], ranks: &mut [u16]) -> Result<Option<u8>, u8> {
     let mut losing = 0x5a;
@@ -52,5 +72,76 @@ pub fn solve(sheet: &[u8], masks: &mut [u8], ranks: &mut [u16]) -> Result<Option
         assert_eq!(losing, 0x5a, "a refused solving altered what was lent");
         return Err(number);
     }
-    Ok(if losing == WINS { None } else { Some(losing) })
+    Ok(losing_lag(losing))
+}
+
+/// The sheet made into an output of so many bytes, and the losing lag; nothing beyond the sheet is altered, and nothing by a refusal.
+pub fn make(sheet: &[u8], masks: &mut [u8], ranks: &mut [u16], room: usize) -> Result<(Vec<u8>, Option<u8>), u8> {
+    let before: Vec<u8> = (0..room).map(|k| (k * 31 + 7) as u8).collect();
+    let buffers = (masks.to_vec(), ranks.to_vec());
+    let mut out = before.clone();
+    let (mut size, mut losing) = (0x5a5a, 0x5a);
+    let number = unsafe {
+        lq_make(
+            sheet.as_ptr(),
+            sheet.len(),
+            masks.as_mut_ptr(),
+            masks.len(),
+            ranks.as_mut_ptr(),
+            ranks.len(),
+            out.as_mut_ptr(),
+            out.len(),
+            &mut size,
+            &mut losing,
+        )
+    };
+    if number != 0 {
+        assert_eq!((size, losing, &out), (0x5a5a, 0x5a, &before), "a refused making altered what was lent");
+        assert_eq!((masks.to_vec(), ranks.to_vec()), buffers, "a refused making altered the buffers");
+        return Err(number);
+    }
+    assert_eq!(out[size..], before[size..], "bytes beyond the made sheet were altered");
+    out.truncate(size);
+    Ok((out, losing_lag(losing)))
+}
+
+/// Offset and length of the T body of a winning sheet.
+pub fn table_place(sheet: &[u8]) -> Result<(usize, usize), u8> {
+    let mut place = [0x5a5a; 2];
+    match unsafe { lq_masks(sheet.as_ptr(), sheet.len(), place.as_mut_ptr()) } {
+        0 => Ok((place[0], place[1])),
+        number => {
+            assert_eq!(place, [0x5a5a; 2]);
+            Err(number)
+        }
+    }
+}
+
+pub fn open(sheet: &[u8]) -> Result<[u8; 21], u8> {
+    let mut state = [0x5a; 21];
+    match unsafe { lq_open(sheet.as_ptr(), sheet.len(), state.as_mut_ptr()) } {
+        0 => Ok(state),
+        number => {
+            assert_eq!(state, [0x5a; 21], "a refused opening altered the state");
+            Err(number)
+        }
+    }
+}
+
+pub fn observe(sheet: &[u8], state: &mut [u8; 21], index: usize, position: u8) -> Result<(), u8> {
+    match unsafe { lq_observe(sheet.as_ptr(), sheet.len(), state.as_mut_ptr(), index, position) } {
+        0 => Ok(()),
+        number => Err(number),
+    }
+}
+
+pub fn act(sheet: &[u8], state: &mut [u8; 21]) -> Result<u8, u8> {
+    let mut action = 0x5a;
+    match unsafe { lq_act(sheet.as_ptr(), sheet.len(), state.as_mut_ptr(), &mut action) } {
+        0 => Ok(action),
+        number => {
+            assert_eq!(action, 0x5a, "a refused giving altered what was lent");
+            Err(number)
+        }
+    }
 }

@@ -12,7 +12,7 @@ use Rattle.theory.specs.Play.{actionsOf, last, back, Rule, IsRule}
 use Rattle.theory.specs.Table.{flagged}
 use Rattle.theory.specs.Exact.{Run, going, playOf, commandOf}
 use Rattle.theory.proofs.Fold.{any-some}
-use Rattle.theory.proofs.Answer.{check-accepted, accepted-on}
+use Rattle.theory.proofs.Answer.{accepted-same, check-accepted, accepted-on}
 use Rattle.theory.proofs.Ours.{ours-fits, ours-judged}
 use Rattle.sheet.specs.Reading.{delayOf}
 use Rattle.sheet.specs.Meant.{gameOf}
@@ -24,9 +24,6 @@ use Rattle.controller.specs.State.{opened}
 use Rattle.controller.specs.Controller.{openAnswer, observeAnswer, actAnswer}
 use Rattle.controller.specs.Accuracy.{Call, hear, ask, reply, Progress, begun, turnOf, callStep, runCalls, True, Truthful, Answered, GoesSafely, Accurate}
 use Rattle.controller.proofs.Progress.{Sound, goes, Follows, begins, Right, hear-right, ask-right}
-
-accepted-same : {A : Type 0} {x y : A} → accepted x ≡ accepted y → x ≡ y
-accepted-same e = cc
 
 -- a readable sheet has a flagged word
 some-word : (t : List ℕ) (x : TableSheet) → tableAnswer t ≡ accepted x → (v : ℕ) × (flagged (x .table) v ≡ true)

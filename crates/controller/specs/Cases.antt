@@ -1,5 +1,5 @@
--- Document 01's starred cases ("Yards to try"), of solving and of the cabin, and cases of our own that catch what those leave:
--- one table, over bytes. Assumes nothing.
+-- Document 01's starred cases ("Yards to try"), of solving and of the cabin, and cases of our own for the cabin that catch what those
+-- leave: one table, over bytes. Cases of our own for the rounds are in theory/specs/Cases.antt. Assumes nothing.
 use Prim.Native.Nat.{ℕ, suc, _-_}
 use mathlib.Core.List.{List, [], _∷_, _++_}
 use lib.ListN.{length, getD}
@@ -92,32 +92,6 @@ hall d =
     (0 ∷ 0 ∷ 4 ∷ 0 ∷ 1 ∷ 4 ∷ 1 ∷ 0 ∷ 5 ∷ 1 ∷ 1 ∷ 5 ∷ 2 ∷ 0 ∷ 6 ∷ 3 ∷ 1 ∷ 6 ∷ [])
     (4 ∷ 2 ∷ 5 ∷ 3 ∷ 6 ∷ 0 ∷ 6 ∷ 1 ∷ [])
 
--- of our own: an unsafe own position is passed at odd delays; of two or four first words one is good
-unfoldable pub passing : ℕ → List ℕ
-passing d = yard (0 ∷ 2 ∷ d ∷ []) (0 ∷ 1 ∷ 2 ∷ 2 ∷ []) (0 ∷ 0 ∷ 2 ∷ 0 ∷ 1 ∷ 3 ∷ 1 ∷ 1 ∷ 2 ∷ []) (2 ∷ 0 ∷ 3 ∷ 1 ∷ [])
-
--- of our own: at delay 2 the good action is permitted where it is played and not where it is chosen
-unfoldable pub chosen : ℕ → List ℕ
-chosen d =
-    yard (0 ∷ 2 ∷ d ∷ []) (0 ∷ 0 ∷ 2 ∷ 2 ∷ 3 ∷ []) (0 ∷ 0 ∷ 2 ∷ 0 ∷ 1 ∷ 3 ∷ 1 ∷ 0 ∷ 4 ∷ []) (2 ∷ 1 ∷ 3 ∷ 0 ∷ 4 ∷ 0 ∷ [])
-
--- of our own: four rounds without an unsafe position, ranks against the order of the nodes
-unfoldable pub slow : ℕ → List ℕ
-slow d =
-    yard (0 ∷ 2 ∷ d ∷ []) (0 ∷ 0 ∷ 0 ∷ 2 ∷ 2 ∷ []) (0 ∷ 1 ∷ 3 ∷ 1 ∷ 0 ∷ 4 ∷ 2 ∷ 0 ∷ 4 ∷ 2 ∷ 1 ∷ 4 ∷ [])
-    (3 ∷ 1 ∷ 4 ∷ 0 ∷ 4 ∷ 2 ∷ [])
-
--- of our own: a node falls by one that falls in the round before and has a lower number
-unfoldable pub struck : ℕ → List ℕ
-struck d =
-    yard (0 ∷ 2 ∷ d ∷ []) (0 ∷ 0 ∷ 2 ∷ 3 ∷ []) (0 ∷ 1 ∷ 3 ∷ 1 ∷ 0 ∷ 2 ∷ 1 ∷ 1 ∷ 2 ∷ []) (2 ∷ 0 ∷ 2 ∷ 1 ∷ 3 ∷ 1 ∷ [])
-
--- of our own: the same at delay 1, by an unsafe own position
-unfoldable pub turned : ℕ → List ℕ
-turned d =
-    yard (0 ∷ 2 ∷ d ∷ []) (0 ∷ 0 ∷ 1 ∷ 2 ∷ 2 ∷ []) (0 ∷ 0 ∷ 4 ∷ 1 ∷ 0 ∷ 3 ∷ 1 ∷ 1 ∷ 4 ∷ 2 ∷ 0 ∷ 3 ∷ [])
-    (3 ∷ 2 ∷ 4 ∷ 0 ∷ 4 ∷ 1 ∷ [])
-
 -- of our own: an action must not be the one before it. So the word matters, and its order
 unfoldable pub alternating : ℕ → List ℕ
 alternating d =
@@ -138,22 +112,7 @@ starred =
     (gives 0 ∷ refuses 13 ∷ accepts ∷ gives 0 ∷ refuses 18 ∷ refuses 17 ∷ [])
     ∷ []
 
--- cases of our own. Each names what it catches beside what the starred ones catch. `passing` at 3: a safety test left out on the
--- own position passed, and first words of the wrong length, and beside 2 and 4 a delay taken for its neighbour; `chosen`: an
--- action tested where it is chosen; `slow`, `struck` and `turned`: nodes struck only once, and ranks that follow the order of
--- visiting
-unfoldable pub solverCases : List Case
-solverCases =
-    solves (passing 2) (winsBy (1 ∷ 0 ∷ []) (1 ∷ 0 ∷ 0 ∷ 0 ∷ 0 ∷ 0 ∷ 0 ∷ 0 ∷ []))
-    ∷ solves (passing 3) (winsBy (1 ∷ 0 ∷ 0 ∷ 0 ∷ []) (0 ∷ 0 ∷ 0 ∷ 0 ∷ 1 ∷ 0 ∷ 0 ∷ 0 ∷ []))
-    ∷ solves (passing 4) (winsBy (1 ∷ 0 ∷ 0 ∷ 0 ∷ []) (1 ∷ 0 ∷ 0 ∷ 0 ∷ 0 ∷ 0 ∷ 0 ∷ 0 ∷ 0 ∷ 0 ∷ 0 ∷ 0 ∷ 0 ∷ 0 ∷ 0 ∷ 0 ∷ []))
-    ∷ solves (chosen 2) (winsBy (0 ∷ 1 ∷ []) (0 ∷ 2 ∷ 0 ∷ 0 ∷ 0 ∷ 0 ∷ 0 ∷ 0 ∷ 0 ∷ 0 ∷ []))
-    ∷ solves (slow 3) (losesAt 3 (0 ∷ 0 ∷ 0 ∷ 0 ∷ 0 ∷ 0 ∷ 4 ∷ 2 ∷ 2 ∷ 3 ∷ []))
-    ∷ solves (struck 0) (losesAt 0 (2 ∷ 3 ∷ 0 ∷ 0 ∷ []))
-    ∷ solves (turned 1) (losesAt 1 (0 ∷ 0 ∷ 0 ∷ 2 ∷ 3 ∷ []))
-    ∷ []
-
--- for the cabin. The first: a freshest report that has a say, and a window shifted by three; the exact play: a freshest
+-- cases of our own for the cabin. The first: a freshest report that has a say, and a window shifted by three; the exact play: a freshest
 -- position; the last two: a window or a word of the wrong length or order, at early turns too, 16, 19 and a repeat
 unfoldable pub cabinCases : List Case
 cabinCases =
@@ -167,7 +126,7 @@ cabinCases =
     ∷ []
 
 abbrev pub cases : List Case
-cases = starred ++ solverCases ++ cabinCases
+cases = starred ++ cabinCases
 
 -- the hall's made sheet at delay 2
 unfoldable pub hallTable : List ℕ

@@ -12,8 +12,8 @@ use Rattle.sheet.specs.Reading.{startOf, actionCount, delayOf, layoutOf, readAn
 use Rattle.sheet.specs.Meant.{isLine, targetIn, movesIn, targetOf, movesOf, gameOf}
 use Rattle.sheet.specs.Cases.{twoBytes, contentsFrom, sheetWith}
 use Rattle.solver.specs.Solving.{solveAnswer, solvedDelay, over, masksAfter, ranksLeft}
-use Rattle.solver.specs.Cases.{Case, outcome, solved, unsolved, guess, splitGate, loop, hall, cases}
+use Rattle.solver.specs.Cases.{Case, outcome, solved, unsolved, guess, cases}
 
 pub outcomes-met : map (λ (x : Case). outcome (x .sheet) (x .masks-room) (x .ranks-room)) cases ≡ map (λ (x : Case). x .outcome) cases
-unfolding both either allBelow anyBelow firstNot anyOf tabulate check onAccepted bad spoiltBy fell falls rankIn ranksAfter finalRanks kept maskBelow maskAt masksBy masks odd words initialWords onRight withWord movedTo playedTo outcomes step arena keptAt goodBy goodFrom goodWith winning answerBy answer numberAt entrySize letterOf offsetOf lengthOf placeOf entryOk contentsOk placedAt partAt bodyOf kindOf kindAt isKnown isController isEnvironment isSafe knownAt controllerAt environmentAt safeAt positionsOk headerOk keyAt risesAt targetOk targetsOk moveOk movesOk beginsAt hasLine leavesAt allLeave nodesOf sizeOk startOf actionCount delayOf layoutOf readAnswer isLine targetIn movesIn targetOf movesOf gameOf twoBytes contentsFrom sheetWith solveAnswer solvedDelay over masksAfter ranksLeft outcome solved unsolved guess splitGate loop hall cases
+unfolding both either allBelow anyBelow firstNot anyOf tabulate check onAccepted bad spoiltBy fell falls rankIn ranksAfter finalRanks kept maskBelow maskAt masksBy masks odd words initialWords onRight withWord movedTo playedTo outcomes step arena keptAt goodBy goodFrom goodWith winning answerBy answer numberAt entrySize letterOf offsetOf lengthOf placeOf entryOk contentsOk placedAt partAt bodyOf kindOf kindAt isKnown isController isEnvironment isSafe knownAt controllerAt environmentAt safeAt positionsOk headerOk keyAt risesAt targetOk targetsOk moveOk movesOk beginsAt hasLine leavesAt allLeave nodesOf sizeOk startOf actionCount delayOf layoutOf readAnswer isLine targetIn movesIn targetOf movesOf gameOf twoBytes contentsFrom sheetWith solveAnswer solvedDelay over masksAfter ranksLeft outcome solved unsolved guess cases
 outcomes-met = refl

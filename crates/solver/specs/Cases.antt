@@ -1,5 +1,5 @@
--- Document 01's starred solver cases ("Yards to try") over bytes, and refusals: the table that proofs/Cases.antt computes. Every buffer
--- holds nines before. Assumes nothing.
+-- What solving answers and leaves in both buffers, refusals too: the table that proofs/Cases.antt computes. Every buffer holds nines
+-- before. Document 01's starred cases are in controller/specs/Cases.antt. Assumes nothing.
 use Prim.Native.Nat.{ℕ, _+_}
 use mathlib.Core.List.{List, [], _∷_, _++_}
 use lib.ListN.{length, replicate}
@@ -49,37 +49,18 @@ unsolved s masks ranks n =
       outcome = record { answer = refused n; masks = replicate masks 9; ranks = replicate ranks 9 };
     }
 
--- the yards, at a lag
-unfoldable pub guess : List ℕ → ℕ → List ℕ
-guess p d = sheetWith (0 ∷ 2 ∷ d ∷ []) p (0 ∷ 0 ∷ 2 ∷ 0 ∷ 1 ∷ 3 ∷ 1 ∷ 0 ∷ 3 ∷ 1 ∷ 1 ∷ 2 ∷ []) (2 ∷ 0 ∷ 2 ∷ 1 ∷ 3 ∷ 0 ∷ [])
-
-unfoldable pub splitGate : ℕ → List ℕ
-splitGate d = sheetWith (0 ∷ 2 ∷ d ∷ []) (0 ∷ 0 ∷ 2 ∷ []) (0 ∷ 0 ∷ 2 ∷ 1 ∷ 1 ∷ 2 ∷ []) (2 ∷ 0 ∷ 2 ∷ 1 ∷ [])
-
-unfoldable pub loop : ℕ → List ℕ
-loop d = sheetWith (0 ∷ 1 ∷ d ∷ []) (0 ∷ 2 ∷ []) (0 ∷ 0 ∷ 1 ∷ []) (1 ∷ 0 ∷ [])
-
-unfoldable pub hall : ℕ → List ℕ
-hall d =
-    sheetWith (0 ∷ 2 ∷ d ∷ []) (0 ∷ 0 ∷ 0 ∷ 0 ∷ 2 ∷ 2 ∷ 2 ∷ [])
-    (0 ∷ 0 ∷ 4 ∷ 0 ∷ 1 ∷ 4 ∷ 1 ∷ 0 ∷ 5 ∷ 1 ∷ 1 ∷ 5 ∷ 2 ∷ 0 ∷ 6 ∷ 3 ∷ 1 ∷ 6 ∷ [])
-    (4 ∷ 2 ∷ 5 ∷ 3 ∷ 6 ∷ 0 ∷ 6 ∷ 1 ∷ [])
-
-abbrev pub safe : List ℕ
-safe = 0 ∷ 0 ∷ 2 ∷ 3 ∷ []
+-- the guess yard, at a lag
+unfoldable pub guess : ℕ → List ℕ
+guess d =
+    sheetWith (0 ∷ 2 ∷ d ∷ []) (0 ∷ 0 ∷ 2 ∷ 3 ∷ []) (0 ∷ 0 ∷ 2 ∷ 0 ∷ 1 ∷ 3 ∷ 1 ∷ 0 ∷ 3 ∷ 1 ∷ 1 ∷ 2 ∷ []) (2 ∷ 0 ∷ 2 ∷ 1 ∷ 3 ∷ 0 ∷ [])
 
 unfoldable pub cases : List Case
 cases =
-    solved (guess safe 0) wins (1 ∷ 2 ∷ 0 ∷ 0 ∷ []) (0 ∷ 0 ∷ 0 ∷ 0 ∷ [])
-    ∷ solved (guess (1 ∷ 0 ∷ 2 ∷ 3 ∷ []) 1) (losing 0) (0 ∷ 0 ∷ 0 ∷ 0 ∷ []) (1 ∷ 2 ∷ 0 ∷ 0 ∷ [])
-    ∷ solved (splitGate 1) (losing 1) (0 ∷ 0 ∷ 0 ∷ []) (0 ∷ 0 ∷ 2 ∷ [])
-    ∷ solved (loop 6) wins (1 ∷ 0 ∷ []) (0 ∷ 0 ∷ [])
-    ∷ solved (loop 5) wins (0 ∷ 1 ∷ []) (0 ∷ 0 ∷ [])
-    ∷ solved (hall 2) wins (1 ∷ 1 ∷ 2 ∷ 2 ∷ 3 ∷ 0 ∷ 0 ∷ 3 ∷ 0 ∷ 0 ∷ 0 ∷ 0 ∷ 0 ∷ 0 ∷ []) (0 ∷ 0 ∷ 0 ∷ 0 ∷ 0 ∷ 2 ∷ 2 ∷ 0 ∷ 0 ∷ 0 ∷ 0 ∷ 0 ∷ 0 ∷ 0 ∷ [])
-    ∷ solved (hall 3) (losing 3) (replicate 14 0) (0 ∷ 0 ∷ 0 ∷ 0 ∷ 0 ∷ 0 ∷ 0 ∷ 0 ∷ 4 ∷ 2 ∷ 2 ∷ 4 ∷ 3 ∷ 3 ∷ [])
+    solved (guess 0) wins (1 ∷ 2 ∷ 0 ∷ 0 ∷ []) (0 ∷ 0 ∷ 0 ∷ 0 ∷ [])
+    ∷ solved (guess 1) (losing 1) (0 ∷ 0 ∷ 0 ∷ 0 ∷ []) (0 ∷ 0 ∷ 2 ∷ 1 ∷ [])
     -- asked at lag 2, which has 8 pairs, losing at 1, which has 4: the other 4 are untouched
     ∷ record {
-      sheet = guess safe 2;
+      sheet = guess 2;
       masks-room = 8;
       ranks-room = 8;
       outcome =
@@ -90,7 +71,7 @@ cases =
           };
     }
     -- lag 7; a buffer too short at the asked lag, though not at the losing one
-    ∷ unsolved (loop 7) 4 4 3
-    ∷ unsolved (guess safe 2) 7 8 8
-    ∷ unsolved (guess safe 2) 8 7 8
+    ∷ unsolved (guess 7) 4 4 3
+    ∷ unsolved (guess 2) 7 8 8
+    ∷ unsolved (guess 2) 8 7 8
     ∷ []

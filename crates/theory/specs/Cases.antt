@@ -1,8 +1,8 @@
--- Document 01's starred solver cases ("Yards to try") and cases of our own that catch what those leave, in one table. Games are written
--- as P, C and U bodies. Assumes nothing.
+-- Games of our own with their results, which catch wrong rounds that document 01's starred yards let pass (those are in
+-- controller/specs/Cases.antt, over bytes). Games are written as P, C and U bodies. Assumes nothing.
 use Prim.Native.Nat.{ℕ, _%_}
 use mathlib.Core.Bool.{cond}
-use mathlib.Core.List.{List, [], _∷_, _++_}
+use mathlib.Core.List.{List, [], _∷_}
 use lib.Dec.{eqb, ltb}
 use lib.ListN.{length, getD}
 use Rattle.theory.specs.Fold.{both}
@@ -56,64 +56,31 @@ pub record Case : Type 0 where
 abbrev pub case : Game → ℕ → Result → Case
 case G d r = record { game = G; delay = d; result = r }
 
--- the guess yard
-unfoldable pub guess : Game
-guess = gameFrom 2 (0 ∷ 0 ∷ 2 ∷ 3 ∷ []) (0 ∷ 0 ∷ 2 ∷ 0 ∷ 1 ∷ 3 ∷ 1 ∷ 0 ∷ 3 ∷ 1 ∷ 1 ∷ 2 ∷ []) (2 ∷ 0 ∷ 2 ∷ 1 ∷ 3 ∷ 0 ∷ [])
-
--- the guess yard "with P 1 0 2 3"
-unfoldable pub unsafeGuess : Game
-unsafeGuess = gameFrom 2 (1 ∷ 0 ∷ 2 ∷ 3 ∷ []) (0 ∷ 0 ∷ 2 ∷ 0 ∷ 1 ∷ 3 ∷ 1 ∷ 0 ∷ 3 ∷ 1 ∷ 1 ∷ 2 ∷ []) (2 ∷ 0 ∷ 2 ∷ 1 ∷ 3 ∷ 0 ∷ [])
-
--- the split gate
-unfoldable pub splitGate : Game
-splitGate = gameFrom 2 (0 ∷ 0 ∷ 2 ∷ []) (0 ∷ 0 ∷ 2 ∷ 1 ∷ 1 ∷ 2 ∷ []) (2 ∷ 0 ∷ 2 ∷ 1 ∷ [])
-
--- the loop
-unfoldable pub loop : Game
-loop = gameFrom 1 (0 ∷ 2 ∷ []) (0 ∷ 0 ∷ 1 ∷ []) (1 ∷ 0 ∷ [])
-
--- the sorting hall
-unfoldable pub hall : Game
-hall = gameFrom 2 (0 ∷ 0 ∷ 0 ∷ 0 ∷ 2 ∷ 2 ∷ 2 ∷ []) (0 ∷ 0 ∷ 4 ∷ 0 ∷ 1 ∷ 4 ∷ 1 ∷ 0 ∷ 5 ∷ 1 ∷ 1 ∷ 5 ∷ 2 ∷ 0 ∷ 6 ∷ 3 ∷ 1 ∷ 6 ∷ []) (4 ∷ 2 ∷ 5 ∷ 3 ∷ 6 ∷ 0 ∷ 6 ∷ 1 ∷ [])
-
--- of our own: an unsafe own position is passed at odd delays; of two or four first words one is good
+-- an unsafe own position is passed at odd delays; of two or four first words one is good
 unfoldable pub passing : Game
 passing = gameFrom 2 (0 ∷ 1 ∷ 2 ∷ 2 ∷ []) (0 ∷ 0 ∷ 2 ∷ 0 ∷ 1 ∷ 3 ∷ 1 ∷ 1 ∷ 2 ∷ []) (2 ∷ 0 ∷ 3 ∷ 1 ∷ [])
 
--- of our own: at delay 2 the good action is permitted where it is played and not where it is chosen
+-- at delay 2 the good action is permitted where it is played and not where it is chosen
 unfoldable pub chosen : Game
 chosen = gameFrom 2 (0 ∷ 0 ∷ 2 ∷ 2 ∷ 3 ∷ []) (0 ∷ 0 ∷ 2 ∷ 0 ∷ 1 ∷ 3 ∷ 1 ∷ 0 ∷ 4 ∷ []) (2 ∷ 1 ∷ 3 ∷ 0 ∷ 4 ∷ 0 ∷ [])
 
--- of our own: four rounds without an unsafe position, ranks against the order of the nodes
+-- four rounds without an unsafe position, ranks against the order of the nodes
 unfoldable pub slow : Game
 slow = gameFrom 2 (0 ∷ 0 ∷ 0 ∷ 2 ∷ 2 ∷ []) (0 ∷ 1 ∷ 3 ∷ 1 ∷ 0 ∷ 4 ∷ 2 ∷ 0 ∷ 4 ∷ 2 ∷ 1 ∷ 4 ∷ []) (3 ∷ 1 ∷ 4 ∷ 0 ∷ 4 ∷ 2 ∷ [])
 
--- of our own: a node falls by one that falls in the round before and has a lower number
+-- a node falls by one that falls in the round before and has a lower number
 unfoldable pub struck : Game
 struck = gameFrom 2 (0 ∷ 0 ∷ 2 ∷ 3 ∷ []) (0 ∷ 1 ∷ 3 ∷ 1 ∷ 0 ∷ 2 ∷ 1 ∷ 1 ∷ 2 ∷ []) (2 ∷ 0 ∷ 2 ∷ 1 ∷ 3 ∷ 1 ∷ [])
 
--- of our own: the same at delay 1, by an unsafe own position
+-- the same at delay 1, by an unsafe own position
 unfoldable pub turned : Game
 turned = gameFrom 2 (0 ∷ 0 ∷ 1 ∷ 2 ∷ 2 ∷ []) (0 ∷ 0 ∷ 4 ∷ 1 ∷ 0 ∷ 3 ∷ 1 ∷ 1 ∷ 4 ∷ 2 ∷ 0 ∷ 3 ∷ []) (3 ∷ 2 ∷ 4 ∷ 0 ∷ 4 ∷ 1 ∷ [])
 
--- every starred case
-unfoldable pub starred : List Case
-starred =
-    (case guess 0 (won (1 ∷ []) (1 ∷ 2 ∷ 0 ∷ 0 ∷ [])))
-    ∷ (case guess 2 (lost 1 (0 ∷ 0 ∷ 2 ∷ 1 ∷ [])))
-    ∷ (case unsafeGuess 1 (lost 0 (1 ∷ 2 ∷ 0 ∷ 0 ∷ [])))
-    ∷ (case splitGate 1 (lost 1 (0 ∷ 0 ∷ 2 ∷ [])))
-    ∷ (case loop 6 (won (1 ∷ []) (1 ∷ 0 ∷ [])))
-    ∷ (case loop 5 (won (1 ∷ []) (0 ∷ 1 ∷ [])))
-    ∷ (case hall 2 (won (1 ∷ 1 ∷ []) (1 ∷ 1 ∷ 2 ∷ 2 ∷ 3 ∷ 0 ∷ 0 ∷ 3 ∷ 0 ∷ 0 ∷ 0 ∷ 0 ∷ 0 ∷ 0 ∷ [])))
-    ∷ (case hall 3 (lost 3 (0 ∷ 0 ∷ 0 ∷ 0 ∷ 0 ∷ 0 ∷ 0 ∷ 0 ∷ 4 ∷ 2 ∷ 2 ∷ 4 ∷ 3 ∷ 3 ∷ [])))
-    ∷ []
-
--- cases of our own. Each names what it catches beside what the starred ones catch: `passing` at 3 a safety test left out on the own position
--- passed and first words of the wrong length, and beside 2 and 4 a delay taken for its neighbour; `chosen` an action tested where it is
--- chosen; `slow`, `struck` and `turned` nodes struck only once and ranks that follow the order of visiting
-unfoldable pub ourCases : List Case
-ourCases =
+-- what each catches: `passing` at 3 a safety test left out on the own position passed and first words of the wrong length, and beside 2
+-- and 4 a delay taken for its neighbour; `chosen` an action tested where it is chosen; `slow`, `struck` and `turned` nodes struck only
+-- once and ranks that follow the order of visiting
+unfoldable pub cases : List Case
+cases =
     (case passing 2 (won (1 ∷ 0 ∷ []) (1 ∷ 0 ∷ 0 ∷ 0 ∷ 0 ∷ 0 ∷ 0 ∷ 0 ∷ [])))
     ∷ (case passing 3 (won (1 ∷ 0 ∷ 0 ∷ 0 ∷ []) (0 ∷ 0 ∷ 0 ∷ 0 ∷ 1 ∷ 0 ∷ 0 ∷ 0 ∷ [])))
     ∷ (case passing 4 (won (1 ∷ 0 ∷ 0 ∷ 0 ∷ []) (1 ∷ 0 ∷ 0 ∷ 0 ∷ 0 ∷ 0 ∷ 0 ∷ 0 ∷ 0 ∷ 0 ∷ 0 ∷ 0 ∷ 0 ∷ 0 ∷ 0 ∷ 0 ∷ [])))
@@ -122,6 +89,3 @@ ourCases =
     ∷ (case struck 0 (lost 0 (2 ∷ 3 ∷ 0 ∷ 0 ∷ [])))
     ∷ (case turned 1 (lost 1 (0 ∷ 0 ∷ 0 ∷ 2 ∷ 3 ∷ [])))
     ∷ []
-
-abbrev pub cases : List Case
-cases = starred ++ ourCases

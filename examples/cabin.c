@@ -1,0 +1,61 @@
+/*
+ * Works the sorting hall at lag 2 for some turns: makes its table, opens a cabin and runs it with reports that come late, overtake each
+ * other, are repeated or get lost.
+ */
+#include <stdio.h>
+
+#include "loquatquoits.h"
+
+static const uint8_t HALL[56] = {
+    'S', 20, 0, 3, 0, 'P', 23, 0, 7, 0, 'C', 30, 0, 18, 0, 'U', 48, 0, 8, 0, /* contents */
+    0,   2,  2,                                                             /* start 0, two commands, lag 2 */
+    0,   0,  0, 0, 2, 2,   2,                                               /* positions */
+    0,   0,  4, 0, 1, 4,   1,  0, 5, 1, 1,   5,  2, 0,  6, 3,   1,  6,       /* from, command, to */
+    4,   2,  5, 3, 6, 0,   6,  1,                                           /* from, to */
+};
+
+static uint8_t table[64];
+static size_t table_len;
+static uint8_t state[LQ_STATE];
+
+static void hear(size_t index, uint8_t position) {
+    uint8_t refusal = lq_observe(table, table_len, state, index, position);
+    printf("hear %zu at %u: %u\n", index, position, refusal);
+}
+
+static void give(void) {
+    uint8_t action;
+    uint8_t refusal = lq_act(table, table_len, state, &action);
+    if (refusal == 0) {
+        printf("give: command %u\n", action);
+    } else {
+        printf("give: refused %u\n", refusal);
+    }
+}
+
+int main(void) {
+    uint8_t masks[14];
+    uint16_t ranks[14];
+    uint8_t losing;
+    if (lq_make(HALL, sizeof HALL, masks, 14, ranks, 14, table, sizeof table, &table_len, &losing) != 0 || losing != LQ_WINS) {
+        printf("no winning sheet\n");
+        return 1;
+    }
+    printf("a winning sheet of %zu bytes\n", table_len);
+    if (lq_open(table, table_len, state) != 0) {
+        return 1;
+    }
+    give();     /* turn 0: the first word's command */
+    give();     /* turn 1: the report of index 0 has not come */
+    hear(0, 0); /* late */
+    hear(0, 0); /* repeated */
+    give();
+    hear(4, 1); /* overtakes the report of index 2 */
+    give();     /* turn 2: only index 2 counts */
+    hear(2, 2);
+    hear(0, 0); /* too old now */
+    give();
+    give(); /* turn 3: index 4 is known already */
+    give(); /* turn 4: the report of index 6 is lost */
+    return 0;
+}

@@ -1,0 +1,150 @@
+//! The cabin from document 01's words: a winning sheet read anew, and a state that remembers every command and every report.
+//! Nothing here is shared with the Rattle code.
+use crate::naive;
+use std::collections::BTreeMap;
+
+/// A winning sheet, decoded.
+#[derive(Clone, Debug)]
+pub struct Table {
+    pub start: u8,
+    pub actions: u8,
+    pub delay: u8,
+    pub highest: u8,
+    pub words: Vec<u8>,
+    pub masks: Vec<u8>,
+    /// Offset and length of the T body.
+    pub place: (usize, usize),
+}
+
+/// "Reading a winning sheet": 10, 11, 12 in this order.
+pub fn read(sheet: &[u8]) -> Result<Table, u8> {
+    let places = naive::contents(sheet, b"SWT").ok_or(10)?;
+    let body = |k: usize| &sheet[places[k].0..places[k].0 + places[k].1];
+    let (s, w, t) = (body(0), body(1), body(2));
+    if s.len() != 4 || s[1] < 1 || s[1] > 8 || s[2] > 6 || s[0] > s[3] {
+        return Err(11);
+    }
+    let a = s[1] as u64;
+    let pairs = (s[3] as u64 + 1) * a.pow(s[2] as u32 / 2);
+    let first_words = a.pow((s[2] as u32 + 1) / 2);
+    let too_wide = |mask: &u8| (*mask as u64) >= 1 << a;
+    if pairs > 16_384
+        || w.len() as u64 != first_words
+        || t.len() as u64 != pairs
+        || w.iter().any(|&flag| flag > 1)
+        || t.iter().any(too_wide)
+    {
+        return Err(11);
+    }
+    if !w.contains(&1) {
+        return Err(12);
+    }
+    Ok(Table {
+        start: s[0],
+        actions: s[1],
+        delay: s[2],
+        highest: s[3],
+        words: w.to_vec(),
+        masks: t.to_vec(),
+        place: places[2],
+    })
+}
+
+impl Table {
+    fn half(&self) -> usize {
+        self.delay as usize / 2
+    }
+
+    /// The least flagged word's command of turn i.
+    fn first_command(&self, i: usize) -> u8 {
+        let length = (self.delay as usize + 1) / 2;
+        let word = self.words.iter().position(|&flag| flag == 1).unwrap();
+        (word / (self.actions as usize).pow((length - 1 - i) as u32) % self.actions as usize) as u8
+    }
+
+    /// The lowest command in the mask of a position with the last commands given, oldest first.
+    fn lowest(&self, position: u8, last: &[u8]) -> Option<u8> {
+        let a = self.actions as usize;
+        let word = last.iter().fold(0, |w, &c| w * a + c as usize);
+        let mask = self.masks[position as usize * a.pow(self.half() as u32) + word];
+        (0..8).find(|c| mask >> c & 1 == 1)
+    }
+
+    /// The command of turn i: document 01's one rule, over positions by index and all commands given.
+    pub fn command(&self, i: usize, position: impl Fn(usize) -> Option<u8>, given: &[u8]) -> Result<u8, u8> {
+        if 2 * i < self.delay as usize {
+            return Ok(self.first_command(i));
+        }
+        let p = position(2 * i - self.delay as usize).ok_or(13)?;
+        self.lowest(p, &given[given.len() - self.half()..]).ok_or(14)
+    }
+}
+
+pub const LAST_TURN: usize = 1_000_000;
+
+/// A cabin that remembers everything.
+#[derive(Clone, Debug, Default)]
+pub struct Cabin {
+    pub given: Vec<u8>,
+    pub heard: BTreeMap<usize, u8>,
+}
+
+impl Cabin {
+    /// 16 to 19, at the turn after the commands given.
+    pub fn hear(&mut self, table: &Table, index: usize, position: u8) -> Result<(), u8> {
+        let i = self.given.len();
+        if position > table.highest {
+            return Err(16);
+        }
+        if index + (table.delay as usize) < 2 * i {
+            return Err(17);
+        }
+        if index > 2 * i {
+            return Err(18);
+        }
+        if self.heard.get(&index).is_some_and(|&p| p != position) {
+            return Err(19);
+        }
+        self.heard.insert(index, position);
+        Ok(())
+    }
+
+    /// 15, 13, 14 or the command.
+    pub fn give(&mut self, table: &Table) -> Result<u8, u8> {
+        if self.given.len() == LAST_TURN {
+            return Err(15);
+        }
+        let command = table.command(self.given.len(), |index| self.heard.get(&index).copied(), &self.given)?;
+        self.given.push(command);
+        Ok(command)
+    }
+}
+
+/// The bytes of a state as `include/loquatquoits.h` lays them out.
+pub struct Bytes<'a>(pub &'a [u8; 21]);
+
+impl Bytes<'_> {
+    pub fn turn(&self) -> u32 {
+        u32::from_le_bytes([self.0[0], self.0[1], self.0[2], self.0[3]])
+    }
+
+    /// The command given k turns before the last one.
+    pub fn held(&self, k: usize) -> u8 {
+        self.0[4 + k]
+    }
+
+    /// What was heard of the index 2 * turn - k.
+    pub fn heard(&self, k: usize) -> Option<u8> {
+        (self.0[7 + 2 * k] != 0).then_some(self.0[8 + 2 * k])
+    }
+
+    /// Refusal 20's reasons, and no other.
+    pub fn refused(&self, table: &Table) -> bool {
+        let turn = self.turn() as usize;
+        let held = (table.delay as usize / 2).min(turn);
+        let window = (table.delay as usize).min(2 * turn);
+        turn > LAST_TURN
+            || (0..held).any(|k| self.held(k) >= table.actions)
+            || (0..=window).any(|k| self.heard(k).is_some_and(|p| p > table.highest))
+    }
+}

@@ -1,0 +1,269 @@
+//! Tables and the cabin against an independent model: made sheets byte by byte, damaged winning sheets, made-up states, and thousands
+//! of lists of calls with late, overtaking, repeated, lost and (outside the window) false reports.
+use loquatquoits_tests::cabin::{self, Bytes, Cabin, Table};
+use loquatquoits_tests::counts::{count, report, Counts};
+use loquatquoits_tests::naive::{self, Game, Rule, Verdict};
+use loquatquoits_tests::proved;
+use loquatquoits_tests::random::Random;
+use loquatquoits_tests::sheets::{self, house, random_yard, Shape, Yard};
+
+/// The sheet that making must write, or nothing where the yard's sheet is refused: document 01, "Sheets".
+fn naive_sheet(sheet: &[u8]) -> Option<(Vec<u8>, Option<u8>)> {
+    let read = naive::read(sheet).ok()?;
+    let game = Game::of(sheet, &read);
+    let highest = (game.positions() - 1) as u8;
+    Some(match game.solve(read.delay, Rule::Document) {
+        Verdict::Winning(level) => {
+            let flags: Vec<u8> = level.good.iter().map(|&good| u8::from(good)).collect();
+            let header = [read.start, read.actions, read.delay, highest];
+            (house(&[(b'S', &header), (b'W', &flags), (b'T', &level.masks)]), None)
+        }
+        Verdict::Losing(m, level) => {
+            let ranks: Vec<u8> = level.ranks.iter().flat_map(|rank| rank.to_le_bytes()).collect();
+            let header = [read.start, read.actions, m, highest];
+            (house(&[(b'S', &header), (b'R', &ranks)]), Some(m))
+        }
+    })
+}
+
+/// The length that refusal 9 asks for, at the asked lag.
+fn owed_length(yard: &Yard) -> usize {
+    19 + (yard.actions as usize).pow((yard.delay as u32 + 1) / 2) + 2 * yard.pairs()
+}
+
+fn make(yard: &Yard, room: usize) -> Result<(Vec<u8>, Option<u8>), u8> {
+    let n = yard.pairs();
+    proved::make(&yard.sheet(), &mut vec![0; n], &mut vec![0; n], room)
+}
+
+fn small_shape(random: &mut Random) -> Shape {
+    Shape {
+        own: 1 + random.below(5),
+        environment: 1 + random.below(5),
+        actions: 1 + random.below(3) as u8,
+        permitted: *random.pick(&[60, 90, 100]),
+        moves: 3,
+        unsafe_positions: *random.pick(&[0, 0, 10]),
+    }
+}
+
+#[test]
+fn made_sheets() {
+    let mut random = Random::new(19);
+    let mut counts = Counts::new();
+    for _ in 0..1500 {
+        let shape = small_shape(&mut random);
+        let yard = random_yard(&mut random, &shape).at(random.below(7) as u8);
+        let owed = owed_length(&yard);
+        let (expected, losing) = naive_sheet(&yard.sheet()).unwrap();
+        assert_eq!(make(&yard, owed + random.below(5)), Ok((expected, losing)));
+        count(&mut counts, if losing.is_none() { "winning sheet".into() } else { "losing sheet".into() });
+        assert_eq!(make(&yard, owed - 1), Err(9));
+        count(&mut counts, "refused 9".into());
+    }
+    report("made sheets", &counts, &["winning sheet", "losing sheet"].map(String::from));
+}
+
+#[test]
+fn damaged_tables() {
+    let mut random = Random::new(11);
+    let mut counts = Counts::new();
+    for _ in 0..20000 {
+        let shape = small_shape(&mut random);
+        let yard = random_yard(&mut random, &shape).at(random.below(4) as u8);
+        let mut sheet = naive_sheet(&yard.sheet()).unwrap().0;
+        for _ in 0..random.below(3) {
+            let at = random.below(sheet.len());
+            match random.below(5) {
+                0 => sheet[at] = random.next() as u8,
+                1 => sheet[at] = random.below(9) as u8,
+                2 => sheet.truncate(at.max(1)),
+                3 => sheet.push(0),
+                _ => sheet[at] ^= 1,
+            }
+        }
+        if random.percent(10) && sheet.len() > 15 {
+            let flags = sheet[8] as usize + 256 * sheet[9] as usize;
+            let end = (19 + flags).min(sheet.len());
+            sheet[19.min(end)..end].fill(0);
+        }
+        let expected = cabin::read(&sheet);
+        assert_eq!(proved::table_place(&sheet), expected.as_ref().map(|t| t.place).map_err(|n| *n), "{sheet:?}");
+        let opened = proved::open(&sheet);
+        assert_eq!(opened, expected.as_ref().map(|_| [0; 21]).map_err(|n| *n));
+        count(&mut counts, expected.map_or_else(|n| format!("refused {n}"), |_| "accepted".into()));
+    }
+    report("damaged tables", &counts, &["refused 10", "refused 11", "refused 12", "accepted"].map(String::from));
+}
+
+/// A winning sheet of a random yard that wins, with its yard.
+fn winning(random: &mut Random) -> (Yard, Vec<u8>) {
+    loop {
+        let shape = small_shape(random);
+        let yard = random_yard(random, &shape).at(random.below(7) as u8);
+        let (sheet, losing) = naive_sheet(&yard.sheet()).unwrap();
+        if losing.is_none() {
+            return (yard, sheet);
+        }
+    }
+}
+
+/// Any bytes are a state: a result, or 20 for its stated reasons only; a refusal leaves the bytes.
+#[test]
+fn made_up_states() {
+    let mut random = Random::new(20);
+    let mut counts = Counts::new();
+    for _ in 0..30000 {
+        let (_, sheet) = winning(&mut random);
+        let table = cabin::read(&sheet).unwrap();
+        let mut state = [0u8; 21];
+        for byte in &mut state {
+            *byte = if random.percent(50) { random.below(4) as u8 } else { random.next() as u8 };
+        }
+        let turn = *random.pick(&[0u32, 1, 2, 3, 5, 999_999, 1_000_000, 1_000_001, u32::MAX]);
+        state[..4].copy_from_slice(&turn.to_le_bytes());
+        let bytes = Bytes(&state);
+        let (i, d) = (turn as usize, table.delay as usize);
+        let index = (2 * i + random.below(4)).saturating_sub(random.below(d + 4));
+        let position = random.below(table.highest as usize + 2) as u8;
+        let hearing = if bytes.refused(&table) {
+            Err(20)
+        } else if position > table.highest {
+            Err(16)
+        } else if index + d < 2 * i {
+            Err(17)
+        } else if index > 2 * i {
+            Err(18)
+        } else if bytes.heard(2 * i - index).is_some_and(|p| p != position) {
+            Err(19)
+        } else {
+            Ok(())
+        };
+        let mut after = state;
+        assert_eq!(proved::observe(&sheet, &mut after, index, position), hearing, "{state:?}");
+        if hearing.is_err() {
+            assert_eq!(after, state, "a refused hearing altered the state");
+        } else {
+            assert_eq!(Bytes(&after).heard(2 * i - index), Some(position));
+        }
+        count(&mut counts, format!("hearing {}", hearing.map_or_else(|n| n.to_string(), |_| "accepted".into())));
+
+        let given: Vec<u8> = (0..(d / 2).min(i)).rev().map(|k| bytes.held(k)).collect();
+        let giving = if bytes.refused(&table) {
+            Err(20)
+        } else if i == cabin::LAST_TURN {
+            Err(15)
+        } else {
+            table.command(i, |_| bytes.heard(d), &given)
+        };
+        let mut after = state;
+        assert_eq!(proved::act(&sheet, &mut after), giving, "{state:?}");
+        if giving.is_err() {
+            assert_eq!(after, state, "a refused giving altered the state");
+        } else {
+            assert_eq!(Bytes(&after).turn(), turn + 1);
+        }
+        count(&mut counts, format!("giving {}", giving.map_or_else(|n| n.to_string(), |_| "accepted".into())));
+    }
+    let hearing = ["16", "17", "18", "19", "20", "accepted"].map(|n| format!("hearing {n}"));
+    let giving = ["13", "14", "15", "20", "accepted"].map(|n| format!("giving {n}"));
+    report("made-up states", &counts, &[&hearing[..], &giving[..]].concat());
+}
+
+/// A rule of the yard that depends on the whole play.
+fn rule(seed: u64, play: &[u8], moves: &[u8]) -> u8 {
+    let hash = play.iter().fold(seed, |h, &p| (h ^ p as u64).wrapping_mul(0x0100_0000_01b3).rotate_left(7));
+    moves[(hash >> 20) as usize % moves.len()]
+}
+
+/// The exact play by the sheet and the rule alone: the positions up to index 2n and the commands of its first n turns.
+fn exact_play(game: &Game, table: &Table, seed: u64, turns: usize) -> (Vec<u8>, Vec<u8>) {
+    let (mut play, mut given) = (vec![table.start], Vec::new());
+    for i in 0..turns {
+        let command = table.command(i, |index| play.get(index).copied(), &given).unwrap();
+        let target = game.target(play[2 * i], command).expect("the exact play ended");
+        play.push(target);
+        play.push(rule(seed, &play, game.moves(target)));
+        given.push(command);
+    }
+    assert!(play.iter().all(|&p| game.safe(p)), "the exact play met an unsafe position");
+    (play, given)
+}
+
+#[test]
+fn lists_of_calls() {
+    let mut random = Random::new(3);
+    let mut counts = Counts::new();
+    for _ in 0..3000 {
+        let (yard, sheet) = winning(&mut random);
+        let game = Game::of(&yard.sheet(), &naive::read(&yard.sheet()).unwrap());
+        let table = cabin::read(&sheet).unwrap();
+        let seed = random.next();
+        let (exact, commands) = exact_play(&game, &table, seed, 60);
+        let mut state = proved::open(&sheet).unwrap();
+        let mut model = Cabin::default();
+        let mut worked = vec![table.start];
+        while model.given.len() < 60 && random.below(1000) > 0 {
+            let i = model.given.len();
+            if random.percent(60) {
+                // a true report of an index in the window or near it, in any order, or anything outside
+                let index = (2 * i + 2).saturating_sub(random.below(table.delay as usize + 5));
+                let outside = index > 2 * i || index + (table.delay as usize) < 2 * i;
+                let position = match worked.get(index) {
+                    Some(&p) if !outside => p,
+                    _ => random.below(table.highest as usize + 3) as u8,
+                };
+                let expected = model.hear(&table, index, position);
+                assert_eq!(proved::observe(&sheet, &mut state, index, position), expected);
+                count(&mut counts, format!("hearing {}", expected.map_or_else(|n| n.to_string(), |_| "accepted".into())));
+            } else {
+                let expected = model.give(&table);
+                let answer = proved::act(&sheet, &mut state);
+                assert_eq!(answer, expected);
+                if let Ok(command) = answer {
+                    assert_eq!(command, commands[i], "not the exact play's command");
+                    let target = game.target(worked[2 * i], command).expect("the worked play ended");
+                    worked.push(target);
+                    worked.push(rule(seed, &worked, game.moves(target)));
+                }
+                count(&mut counts, format!("giving {}", answer.map_or_else(|n| n.to_string(), |c| format!("command {c}"))));
+            }
+            assert_eq!(Bytes(&state).turn() as usize, model.given.len());
+        }
+        assert_eq!(worked[..], exact[..worked.len()], "the worked play is not the exact play");
+    }
+    let wanted = ["hearing 16", "hearing 17", "hearing 18", "hearing accepted", "giving 13", "giving command 0", "giving command 1", "giving command 2"];
+    report("lists of calls", &counts, &wanted.map(String::from));
+}
+
+/// The last turns: 999,999 is given, 1,000,000 is not.
+#[test]
+fn last_turn() {
+    let sheet = naive_sheet(&sheets::looped().at(2).sheet()).unwrap().0;
+    let mut state = proved::open(&sheet).unwrap();
+    let mut turn = 0;
+    while turn < cabin::LAST_TURN {
+        if 2 * turn >= 2 {
+            assert_eq!(proved::observe(&sheet, &mut state, 2 * turn - 2, 0), Ok(()));
+        }
+        assert_eq!(proved::act(&sheet, &mut state), Ok(0));
+        turn += 1;
+    }
+    assert_eq!(proved::act(&sheet, &mut state), Err(15));
+    assert_eq!(Bytes(&state).turn(), 1_000_000);
+    println!("last turn: 1,000,000 commands given, then 15");
+}
+
+/// Document 01's cabin cases in the sorting hall at lag 2.
+#[test]
+fn hall_cases() {
+    let (sheet, losing) = make(&sheets::hall().at(2), 1000).unwrap();
+    assert_eq!(losing, None);
+    let mut state = proved::open(&sheet).unwrap();
+    assert_eq!(proved::act(&sheet, &mut state), Ok(0));
+    assert_eq!(proved::act(&sheet, &mut state), Err(13));
+    assert_eq!(proved::observe(&sheet, &mut state, 0, 0), Ok(()));
+    assert_eq!(proved::act(&sheet, &mut state), Ok(0));
+    assert_eq!(proved::observe(&sheet, &mut state, 5, 0), Err(18));
+    assert_eq!(proved::observe(&sheet, &mut state, 1, 4), Err(17));
+}
