@@ -8,6 +8,9 @@ use sheet::form::contents_ok;
 use sheet::form::part;
 use sheet::form::placed;
 use sheet::form::wide;
+use sheet::limits::MOST_ACTIONS;
+use sheet::limits::MOST_DELAY;
+use sheet::limits::MOST_NODES;
 use sheet::refusal::Refusal;
 use sheet::size::power;
 ghost use mathlib.Core.Path.{_≡_};
@@ -15,12 +18,6 @@ ghost use mathlib.Core.List.{[]};
 ghost use Prim.Native.Nat.{_+_, _≤_};
 ghost use Rattle.sheet.specs.Limits.{mostActions, mostDelay};
 ghost use Rattle.table.specs.TableSheet.{tableLayout, says, numbersOk, belowAt, bytesBelow, bodiesOk, shapeAnswer, someFlagged, tableAnswer, masksOf, meaning};
-
-const MOST_ACTIONS: u8 = 8;
-
-const MOST_DELAY: u8 = 6;
-
-const MOST_NODES: usize = 16384;
 
 // What an accepted reading carries: the start bytes and the places of the W and T bodies.
 pub struct TableLayout {
