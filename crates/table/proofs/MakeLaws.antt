@@ -254,11 +254,11 @@ module _ (s : List ℕ) (l : Layout) (M R O : List ℕ) (ready : Ready s l (leng
   unfolding solveAnswer onAccepted
   solve-is =
       rw (ready .reads)
-      (check-passed _ 8 _ (both-true _ _ (le-leb _ _ (ready .masks-room)) (le-leb _ _ (ready .ranks-room))))
+      (check-passed _ _ _ (both-true _ _ (le-leb _ _ (ready .masks-room)) (le-leb _ _ (ready .ranks-room))))
 
   pub make-is : makeAnswer s (length M) (length R) (length O) ≡ accepted (madeOf G d (answer G d))
   unfolding makeAnswer onAccepted
-  make-is = rw solve-is (check-passed _ 9 _ (le-leb _ _ (ready .output-room)))
+  make-is = rw solve-is (check-passed _ _ _ (le-leb _ _ (ready .output-room)))
 
   module _ (y : Solution) (ey : solving.meaning y ≡ solveAnswer s (length M) (length R)) (M′ R′ : List ℕ)
       (em : M′ ≡ masksAfter s (solveAnswer s (length M) (length R)) M) (er : R′ ≡ ranksLeft s (solveAnswer s (length M) (length R)) R) where

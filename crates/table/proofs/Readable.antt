@@ -7,7 +7,7 @@ use mathlib.Core.List.{List, [], _∷_}
 use native.Mathlib.Omega.{arith}
 use lib.ListN.{length, getD}
 use borrow.Author.Tests.{eq-eqb, le-leb, lt-ltb}
-use Rattle.theory.specs.Answer.{accepted, onAccepted}
+use Rattle.theory.specs.Answer.{accepted, check, onAccepted}
 use Rattle.theory.specs.Game.{Game, Legal}
 use Rattle.theory.specs.Strategy.{initialLength}
 use Rattle.theory.specs.Rounds.{finalRanks, masks}
@@ -124,7 +124,7 @@ module _ (G : Game) (d : ℕ) (ranged : Ranged G d) where
   unfolding shapeAnswer
   made-shape =
       rw (header-size, made-says)
-      (check-passed _ 10 _ contents ∙ check-passed _ 11 _ numbers ∙ check-passed _ 11 _ bodies-ok)
+      (check-passed _ _ _ contents ∙ check-passed _ _ _ numbers ∙ check-passed _ _ _ bodies-ok)
 
   some-good : winning G d ≡ true → someFlagged (ours G d) ≡ true
   unfolding someFlagged winning
@@ -134,5 +134,5 @@ module _ (G : Game) (d : ℕ) (ranged : Ranged G d) where
       (good-flagged G d (g .0) (g .1) (g .2))
 
   pub made-readable : winning G d ≡ true → tableAnswer (winningSheet G d) ≡ accepted (tableFor G d)
-  unfolding tableAnswer onAccepted
-  made-readable e = rw made-shape (check-passed _ 12 _ (some-good e))
+  unfolding tableAnswer onAccepted check
+  made-readable e = simp (made-says, made-shape, some-good e)
