@@ -20,8 +20,6 @@ use Rattle.theory.specs.Delay.{Verdict, wins, losing, winning, initialWords, ar
 use Rattle.theory.proofs.Fold.{bool, both-true, both-false, both-left, both-right, all-fails, first, both-none}
 use Rattle.theory.proofs.Answer.{refused-not-accepted, check-passed, accepted-same}
 use Rattle.theory.proofs.Rounds.{final-length}
-use Rattle.theory.proofs.Ours.{ours-fits}
-use Rattle.theory.specs.Table.{ours}
 use Rattle.sheet.specs.Refusals.{numberOf}
 use Rattle.sheet.specs.Checks.{nodesOf}
 use Rattle.sheet.specs.Reading.{readAnswer, delayOf, actionCount, meaning, refusalNumber}
@@ -40,6 +38,7 @@ use Rattle.solver.specs.declared.solve.Solution.the-variants as solution
 use Rattle.solver.specs.Flags.{flagWith, countIn, flagsCount, flagsAfter}
 use Rattle.table.specs.Making.{headerOf, headerBytes, tableBytes, rankBytes, winningSheet, losingSheet, Made, won, lost, madeOf, outputSize, shortOf, makeAnswer, ifMade, outputAfter, Measured, measureOf, measured, Small, Begins, Ready, Solved}
 use Rattle.sheet.proofs.SizeLaws.{power-bound}
+use Rattle.table.proofs.Readable.{flags-length, masks-length}
 use Rattle.table.proofs.Made.{sheet-ranged, winning-fits, losing-fits}
 
 -- checks 8 and 9; n and w are the nodes and first words that the code has counted, x the refusal's number
@@ -127,18 +126,9 @@ zeros = replicate 512 0
 
 -- the table sheet; n is the number of nodes that the code has counted, w of first words
 
-module _ (G : Game) (d : ℕ) where
-  masks-length : length (masks (arena G d)) ≡ arena G d .nodes
-  unfolding ours
-  masks-length = ours-fits G d .masks-length
-
-  flags-length : length (flags G d) ≡ initialWords G d
-  unfolding ours
-  flags-length = ours-fits G d .flags-length
-
-  flags-are : tabulate (flagWith G d (finalRanks (arena G d))) 0 (initialWords G d) ≡ flags G d
-  unfolding flagWith flags
-  flags-are = refl
+flags-are : (G : Game) (d : ℕ) → tabulate (flagWith G d (finalRanks (arena G d))) 0 (initialWords G d) ≡ flags G d
+unfolding flagWith flags
+flags-are G d = refl
 
 module _ (s : List ℕ) (l : Layout) (M R : List ℕ) (ready : Solved s l M R) where
   pub solved-small : Small l
@@ -253,11 +243,11 @@ module _ (s : List ℕ) (l : Layout) (M R O : List ℕ) (ready : Ready s l (leng
   unfolding solveAnswer onAccepted
   solve-is =
       rw (ready .reads)
-      (check-passed _ 8 _ (both-true _ _ (le-leb _ _ (ready .masks-room)) (le-leb _ _ (ready .ranks-room))))
+      (check-passed _ _ _ (both-true _ _ (le-leb _ _ (ready .masks-room)) (le-leb _ _ (ready .ranks-room))))
 
   pub make-is : makeAnswer s (length M) (length R) (length O) ≡ accepted (madeOf G d (answer G d))
   unfolding makeAnswer onAccepted
-  make-is = rw solve-is (check-passed _ 9 _ (le-leb _ _ (ready .output-room)))
+  make-is = rw solve-is (check-passed _ _ _ (le-leb _ _ (ready .output-room)))
 
   module _ (y : Solution) (ey : solving.meaning y ≡ solveAnswer s (length M) (length R)) (M′ R′ : List ℕ)
       (em : M′ ≡ masksAfter s (solveAnswer s (length M) (length R)) M) (er : R′ ≡ ranksLeft s (solveAnswer s (length M) (length R)) R) where

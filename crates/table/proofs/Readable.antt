@@ -7,7 +7,7 @@ use mathlib.Core.List.{List, [], _∷_}
 use native.Mathlib.Omega.{arith}
 use lib.ListN.{length, getD}
 use borrow.Author.Tests.{eq-eqb, le-leb, lt-ltb}
-use Rattle.theory.specs.Answer.{accepted, onAccepted}
+use Rattle.theory.specs.Answer.{accepted, check, onAccepted}
 use Rattle.theory.specs.Game.{Game, Legal}
 use Rattle.theory.specs.Strategy.{initialLength}
 use Rattle.theory.specs.Rounds.{finalRanks, masks}
@@ -41,23 +41,23 @@ tableFor G d = record { start = G .start; actions = G .actions; delay = d; highe
 abbrev winningParts : Game → ℕ → List Part
 winningParts G d = part 83 (headerOf G d) ∷ part 87 (flags G d) ∷ part 84 (masks (arena G d)) ∷ []
 
+pub flags-length : (G : Game) (d : ℕ) → length (flags G d) ≡ initialWords G d
+unfolding ours
+flags-length G d = ours-fits G d .flags-length
+
+pub masks-length : (G : Game) (d : ℕ) → length (masks (arena G d)) ≡ arena G d .nodes
+unfolding ours
+masks-length G d = ours-fits G d .masks-length
+
 module _ (G : Game) (d : ℕ) (ranged : Ranged G d) where
   few-words : initialWords G d ≤ 512
   unfolding initialWords
   few-words = power-bound (G .actions) (initialLength d) (ranged .few-actions) (omega (arith, ranged .short-delay))
 
-  flags-length : length (flags G d) ≡ initialWords G d
-  unfolding ours
-  flags-length = ours-fits G d .flags-length
-
-  masks-length : length (masks (arena G d)) ≡ arena G d .nodes
-  unfolding ours
-  masks-length = ours-fits G d .masks-length
-
   -- the sheet has 15 bytes of contents and 4 of S
   parts-size : entrySize 2 * 3 + before (winningParts G d) 3 ≡ 19 + initialWords G d + arena G d .nodes
   unfolding entrySize before headerOf
-  parts-size = rw (flags-length, masks-length) (omega arith)
+  parts-size = rw (flags-length G d, masks-length G d) (omega arith)
 
   pub winning-length : length (winningSheet G d) ≡ 19 + initialWords G d + arena G d .nodes
   unfolding winningSheet tableBytes
@@ -113,8 +113,8 @@ module _ (G : Game) (d : ℕ) (ranged : Ranged G d) where
   bodies-ok : bodiesOk (tableFor G d) ≡ true
   unfolding bodiesOk ours initialWords
   bodies-ok =
-      both-true _ _ (eq-eqb _ _ flags-length)
-      (both-true _ _ (eq-eqb _ _ (masks-length ∙ sym nodes-are)) (both-true _ _ flags-below masks-below))
+      both-true _ _ (eq-eqb _ _ (flags-length G d))
+      (both-true _ _ (eq-eqb _ _ (masks-length G d ∙ sym nodes-are)) (both-true _ _ flags-below masks-below))
 
   header-size : length (bodyOf 2 (winningSheet G d) 0) ≡ 4
   unfolding headerOf
@@ -124,7 +124,7 @@ module _ (G : Game) (d : ℕ) (ranged : Ranged G d) where
   unfolding shapeAnswer
   made-shape =
       rw (header-size, made-says)
-      (check-passed _ 10 _ contents ∙ check-passed _ 11 _ numbers ∙ check-passed _ 11 _ bodies-ok)
+      (check-passed _ _ _ contents ∙ check-passed _ _ _ numbers ∙ check-passed _ _ _ bodies-ok)
 
   some-good : winning G d ≡ true → someFlagged (ours G d) ≡ true
   unfolding someFlagged winning
@@ -134,5 +134,5 @@ module _ (G : Game) (d : ℕ) (ranged : Ranged G d) where
       (good-flagged G d (g .0) (g .1) (g .2))
 
   pub made-readable : winning G d ≡ true → tableAnswer (winningSheet G d) ≡ accepted (tableFor G d)
-  unfolding tableAnswer onAccepted
-  made-readable e = rw made-shape (check-passed _ 12 _ (some-good e))
+  unfolding tableAnswer onAccepted check
+  made-readable e = simp (made-says, made-shape, some-good e)

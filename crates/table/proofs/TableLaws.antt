@@ -176,7 +176,7 @@ module _ (s : List ℕ) (r₁ : Bool) (e₁ : r₁ ≡ contentsOk 2 tableLetters
           e
           ∙ ap accepted (says-same s l el)
           ∙ sym
-          (check-passed _ 10 _ (passed e₁ t₁) ∙ check-passed _ 11 _ (passed two t₂) ∙ check-passed _ 11 _ (passed three x))
+          (check-passed _ _ _ (passed e₁ t₁) ∙ check-passed _ _ _ (passed two t₂) ∙ check-passed _ _ _ (passed three x))
 
 pub ruleset shapes = (needs, few-actions, short-delay, refuses-10, refuses-11, refuses-bodies, shape-read)
 
