@@ -27,7 +27,7 @@ use Rattle.text.specs.Numbers.{bytesOf}
 use Rattle.solver.specs.Solving.{solveAnswer}
 use Rattle.table.specs.Writing.{entryOf, entriesFrom, bodies, sheetOf}
 use Rattle.table.proofs.Made.{making-won}
-use Rattle.table.specs.Making.{won, headerOf, winningSheet, losingSheet, madeOf, outputSize, makeAnswer}
+use Rattle.table.specs.Making.{won, headerOf, tableBytes, winningSheet, losingSheet, madeOf, outputSize, makeAnswer}
 use Rattle.table.specs.TableSheet.{tableLayout, decode, tableNodes, numbersOk, belowAt, bytesBelow, bodiesOk, shapeAnswer, someFlagged, tableAnswer}
 use Rattle.controller.specs.State.{slotAt, heldAt, withinAt, heldOk, windowOk, stateOk, pushed, shiftedAt, shifted}
 use Rattle.controller.specs.Controller.{agrees, observeWith, wordOf, obey, commandIn, reported, actWith, openAnswer, observeAnswer, actAnswer}
@@ -36,7 +36,7 @@ use Rattle.controller.proofs.Accuracy.{accuracy}
 use Rattle.controller.specs.Cases.{hallTable, hallCalls, yard, resultBy, lastMove, positionsOf, repliesTo, answersBy, playsBy, computed, guess, splitGate, loop, hall, alternating, passing, chosen, slow, struck, turned, starred, solverCases, cabinCases, cases}
 
 pub cases-met : map computed cases ≡ map accepted cases
-unfolding both either allBelow anyBelow firstNot anyOf tabulate check onAccepted digit lastFrom turns index back lastActions bad spoiltBy fell falls rankIn ranksAfter finalRanks kept maskBelow maskAt masksBy masks odd words initialWords onRight withWord movedTo playedTo outcomes step arena keptAt goodBy goodFrom goodWith winning flags answerBy answer ours flagged bit leastFlagged lowestIn commandAt arrive advance turnBy playBy commandOf exact positionsOk headerOk keyAt risesAt targetOk targetsOk moveOk movesOk beginsAt hasLine leavesAt allLeave nodesOf powerTo sizeOk numberAt entrySize letterOf offsetOf lengthOf placeOf entryOk contentsOk placedAt partAt bodyOf kindOf kindAt isKnown isController isEnvironment isSafe knownAt controllerAt environmentAt safeAt isLine targetIn movesIn targetOf movesOf gameOf startOf actionCount delayOf layoutOf readAnswer bytesOf solveAnswer entryOf entriesFrom bodies sheetOf headerOf winningSheet losingSheet madeOf outputSize makeAnswer tableLayout decode tableNodes numbersOk belowAt bytesBelow bodiesOk shapeAnswer someFlagged tableAnswer slotAt heldAt withinAt heldOk windowOk stateOk pushed shiftedAt shifted agrees observeWith wordOf obey commandIn reported actWith openAnswer observeAnswer actAnswer callStep yard resultBy lastMove positionsOf repliesTo answersBy playsBy computed guess splitGate loop hall alternating passing chosen slow struck turned starred solverCases cabinCases
+unfolding both either allBelow anyBelow firstNot anyOf tabulate check onAccepted digit lastFrom turns index back lastActions bad spoiltBy fell falls rankIn ranksAfter finalRanks kept maskBelow maskAt masksBy masks odd words initialWords onRight withWord movedTo playedTo outcomes step arena keptAt goodBy goodFrom goodWith winning flags answerBy answer ours flagged bit leastFlagged lowestIn commandAt arrive advance turnBy playBy commandOf exact positionsOk headerOk keyAt risesAt targetOk targetsOk moveOk movesOk beginsAt hasLine leavesAt allLeave nodesOf powerTo sizeOk numberAt entrySize letterOf offsetOf lengthOf placeOf entryOk contentsOk placedAt partAt bodyOf kindOf kindAt isKnown isController isEnvironment isSafe knownAt controllerAt environmentAt safeAt isLine targetIn movesIn targetOf movesOf gameOf startOf actionCount delayOf layoutOf readAnswer bytesOf solveAnswer entryOf entriesFrom bodies sheetOf headerOf tableBytes winningSheet losingSheet madeOf outputSize makeAnswer tableLayout decode tableNodes numbersOk belowAt bytesBelow bodiesOk shapeAnswer someFlagged tableAnswer slotAt heldAt withinAt heldOk windowOk stateOk pushed shiftedAt shifted agrees observeWith wordOf obey commandIn reported actWith openAnswer observeAnswer actAnswer callStep yard resultBy lastMove positionsOf repliesTo answersBy playsBy computed guess splitGate loop hall alternating passing chosen slow struck turned starred solverCases cabinCases
 cases-met = refl
 
 -- the rule of the last move is one of the yard's
@@ -61,11 +61,11 @@ last-rule G legal π p e =
     member-at (G .moves (last G π)) (length (G .moves (last G π)) - 1) (omega arith)
 
 pub hall-made : makeAnswer (hall 2) 14 14 49 ≡ accepted (won hallTable)
-unfolding hallTable both either allBelow anyBelow firstNot anyOf tabulate check onAccepted digit lastFrom turns index back lastActions bad spoiltBy fell falls rankIn ranksAfter finalRanks kept maskBelow maskAt masksBy masks odd words initialWords onRight withWord movedTo playedTo outcomes step arena keptAt goodBy goodFrom goodWith winning flags answerBy answer ours flagged bit leastFlagged lowestIn commandAt arrive advance turnBy playBy commandOf exact positionsOk headerOk keyAt risesAt targetOk targetsOk moveOk movesOk beginsAt hasLine leavesAt allLeave nodesOf powerTo sizeOk numberAt entrySize letterOf offsetOf lengthOf placeOf entryOk contentsOk placedAt partAt bodyOf kindOf kindAt isKnown isController isEnvironment isSafe knownAt controllerAt environmentAt safeAt isLine targetIn movesIn targetOf movesOf gameOf startOf actionCount delayOf layoutOf readAnswer bytesOf solveAnswer entryOf entriesFrom bodies sheetOf headerOf winningSheet losingSheet madeOf outputSize makeAnswer tableLayout decode tableNodes numbersOk belowAt bytesBelow bodiesOk shapeAnswer someFlagged tableAnswer slotAt heldAt withinAt heldOk windowOk stateOk pushed shiftedAt shifted agrees observeWith wordOf obey commandIn reported actWith openAnswer observeAnswer actAnswer callStep yard hall
+unfolding hallTable both either allBelow anyBelow firstNot anyOf tabulate check onAccepted digit lastFrom turns index back lastActions bad spoiltBy fell falls rankIn ranksAfter finalRanks kept maskBelow maskAt masksBy masks odd words initialWords onRight withWord movedTo playedTo outcomes step arena keptAt goodBy goodFrom goodWith winning flags answerBy answer ours flagged bit leastFlagged lowestIn commandAt arrive advance turnBy playBy commandOf exact positionsOk headerOk keyAt risesAt targetOk targetsOk moveOk movesOk beginsAt hasLine leavesAt allLeave nodesOf powerTo sizeOk numberAt entrySize letterOf offsetOf lengthOf placeOf entryOk contentsOk placedAt partAt bodyOf kindOf kindAt isKnown isController isEnvironment isSafe knownAt controllerAt environmentAt safeAt isLine targetIn movesIn targetOf movesOf gameOf startOf actionCount delayOf layoutOf readAnswer bytesOf solveAnswer entryOf entriesFrom bodies sheetOf headerOf tableBytes winningSheet losingSheet madeOf outputSize makeAnswer tableLayout decode tableNodes numbersOk belowAt bytesBelow bodiesOk shapeAnswer someFlagged tableAnswer slotAt heldAt withinAt heldOk windowOk stateOk pushed shiftedAt shifted agrees observeWith wordOf obey commandIn reported actWith openAnswer observeAnswer actAnswer callStep yard hall
 hall-made = refl
 
 hall-true : Truthful (gameOf (hall 2)) hallTable (lastMove (gameOf (hall 2))) begun hallCalls
-unfolding hallTable hallCalls worked Truthful both either allBelow anyBelow firstNot anyOf tabulate check onAccepted digit lastFrom turns index back lastActions bad spoiltBy fell falls rankIn ranksAfter finalRanks kept maskBelow maskAt masksBy masks odd words initialWords onRight withWord movedTo playedTo outcomes step arena keptAt goodBy goodFrom goodWith winning flags answerBy answer ours flagged bit leastFlagged lowestIn commandAt arrive advance turnBy playBy commandOf exact positionsOk headerOk keyAt risesAt targetOk targetsOk moveOk movesOk beginsAt hasLine leavesAt allLeave nodesOf powerTo sizeOk numberAt entrySize letterOf offsetOf lengthOf placeOf entryOk contentsOk placedAt partAt bodyOf kindOf kindAt isKnown isController isEnvironment isSafe knownAt controllerAt environmentAt safeAt isLine targetIn movesIn targetOf movesOf gameOf startOf actionCount delayOf layoutOf readAnswer bytesOf solveAnswer entryOf entriesFrom bodies sheetOf headerOf winningSheet losingSheet madeOf outputSize makeAnswer tableLayout decode tableNodes numbersOk belowAt bytesBelow bodiesOk shapeAnswer someFlagged tableAnswer slotAt heldAt withinAt heldOk windowOk stateOk pushed shiftedAt shifted agrees observeWith wordOf obey commandIn reported actWith openAnswer observeAnswer actAnswer callStep yard lastMove hall
+unfolding hallTable hallCalls worked Truthful both either allBelow anyBelow firstNot anyOf tabulate check onAccepted digit lastFrom turns index back lastActions bad spoiltBy fell falls rankIn ranksAfter finalRanks kept maskBelow maskAt masksBy masks odd words initialWords onRight withWord movedTo playedTo outcomes step arena keptAt goodBy goodFrom goodWith winning flags answerBy answer ours flagged bit leastFlagged lowestIn commandAt arrive advance turnBy playBy commandOf exact positionsOk headerOk keyAt risesAt targetOk targetsOk moveOk movesOk beginsAt hasLine leavesAt allLeave nodesOf powerTo sizeOk numberAt entrySize letterOf offsetOf lengthOf placeOf entryOk contentsOk placedAt partAt bodyOf kindOf kindAt isKnown isController isEnvironment isSafe knownAt controllerAt environmentAt safeAt isLine targetIn movesIn targetOf movesOf gameOf startOf actionCount delayOf layoutOf readAnswer bytesOf solveAnswer entryOf entriesFrom bodies sheetOf headerOf tableBytes winningSheet losingSheet madeOf outputSize makeAnswer tableLayout decode tableNodes numbersOk belowAt bytesBelow bodiesOk shapeAnswer someFlagged tableAnswer slotAt heldAt withinAt heldOk windowOk stateOk pushed shiftedAt shifted agrees observeWith wordOf obey commandIn reported actWith openAnswer observeAnswer actAnswer callStep yard lastMove hall
 hall-true =
     (tt, (λ l u. (leb-true 0 2 refl, refl), (λ l u. (leb-true 0 2 refl, refl), (tt, (λ l u. (leb-true 4 4 refl, refl), (tt, (λ l u. (leb-true 2 4 refl, refl), (λ l u. absurd (omega arith), (λ l u. absurd (omega arith), (λ l u. (leb-true 3 4 refl, refl), (tt, (tt, (tt, tt)))))))))))))
 
