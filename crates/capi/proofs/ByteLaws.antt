@@ -1,7 +1,7 @@
 -- Decoding and encoding, and the calls over a state's bytes, as the code of src/bytes.rt and src/control.rt finds them. Assumes nothing.
 use Prim.Native.Nat.{ℕ, _+_, _*_, _/_, _%_}
 use mathlib.Core.Path.{_≡_, refl, sym, _∙_, ap}
-use mathlib.Core.Bool.{Bool, true, false, not, cond}
+use mathlib.Core.Bool.{true, false, not}
 use mathlib.Core.List.{List, [], _∷_}
 use lib.Dec.{eqb}
 use lib.ListN.{getD}
@@ -9,14 +9,13 @@ use borrow.Author.Needs.{needs}
 use Rattle.sheet.specs.Refusals.{numberOf}
 use Rattle.sheet.specs.declared.refusal.Refusal.{Refusal}
 use Rattle.controller.specs.State.{unknown, slotAt}
-use Rattle.controller.specs.Accuracy.{Call, hear, ask, Outcome, Reply, reply}
+use Rattle.controller.specs.Accuracy.{hear, ask, Reply, reply}
 use Rattle.controller.specs.Meaning.{outcomeOf, meaning}
 use Rattle.controller.specs.declared.state.Slot.{Slot}
 use Rattle.controller.specs.declared.state.State.{State}
-use Rattle.controller.specs.declared.calls.Decision.{Decision}
 use Rattle.controller.specs.declared.calls.Decision.the-variants.{Accepted, Given, Refused}
 use Rattle.controller.specs.declared.calls.Step.{Step}
-use Rattle.capi.specs.StateBytes.{turnFrom, slotFrom, slotIn, decodeState, flagOf, slotBytes, encodeState}
+use Rattle.capi.specs.StateBytes.{turnFrom, slotFrom, slotIn, windowIn, decodeState, flagOf, slotBytes, encodeState}
 use Rattle.capi.specs.Controlled.{outcomeNumber, bytesFor, bytesAfter, actionAfter, byteReply}
 
 -- the parts of a state
@@ -37,10 +36,9 @@ pub flag-unknown : (v : Slot) → v .known ≡ false → 0 ≡ flagOf v
 unfolding flagOf
 flag-unknown v e = rw e
 
--- the whole state; its bytes are read as b, its slots as those of w
+-- the whole state
 
-pub decode-is : (b : List ℕ) (t : ℕ) (s₀ s₁ s₂ s₃ s₄ s₅ s₆ : Slot)
-    → t ≡ turnFrom (getD b 0 0) (getD b 1 0) (getD b 2 0) (getD b 3 0)
+pub window-is : (b : List ℕ) (s₀ s₁ s₂ s₃ s₄ s₅ s₆ : Slot)
     → s₀ ≡ slotFrom (getD b 7 0) (getD b 8 0)
     → s₁ ≡ slotFrom (getD b 9 0) (getD b 10 0)
     → s₂ ≡ slotFrom (getD b 11 0) (getD b 12 0)
@@ -48,10 +46,14 @@ pub decode-is : (b : List ℕ) (t : ℕ) (s₀ s₁ s₂ s₃ s₄ s₅ s₆ : S
     → s₄ ≡ slotFrom (getD b 15 0) (getD b 16 0)
     → s₅ ≡ slotFrom (getD b 17 0) (getD b 18 0)
     → s₆ ≡ slotFrom (getD b 19 0) (getD b 20 0)
-    → record { turn = t; last = getD b 4 0 ∷ getD b 5 0 ∷ getD b 6 0 ∷ []; window = s₀ ∷ s₁ ∷ s₂ ∷ s₃ ∷ s₄ ∷ s₅ ∷ s₆ ∷ [] }
-    ≡ decodeState b
-unfolding decodeState slotIn
-decode-is b t s₀ s₁ s₂ s₃ s₄ s₅ s₆ e e₀ e₁ e₂ e₃ e₄ e₅ e₆ = rw (e, e₀, e₁, e₂, e₃, e₄, e₅, e₆)
+    → s₀ ∷ s₁ ∷ s₂ ∷ s₃ ∷ s₄ ∷ s₅ ∷ s₆ ∷ [] ≡ windowIn b
+unfolding windowIn slotIn
+window-is b s₀ s₁ s₂ s₃ s₄ s₅ s₆ e₀ e₁ e₂ e₃ e₄ e₅ e₆ = rw (e₀, e₁, e₂, e₃, e₄, e₅, e₆)
+
+pub decode-is : (b : List ℕ) (t : ℕ) (w : List Slot) → t ≡ turnFrom (getD b 0 0) (getD b 1 0) (getD b 2 0) (getD b 3 0) → w ≡ windowIn b
+    → record { turn = t; last = getD b 4 0 ∷ getD b 5 0 ∷ getD b 6 0 ∷ []; window = w } ≡ decodeState b
+unfolding decodeState
+decode-is b t w e f = rw (e, f)
 
 module _ (s : State) (a b c d f₀ f₁ f₂ f₃ f₄ f₅ f₆ : ℕ) where
   abbrev slot : ℕ → Slot
@@ -67,7 +69,7 @@ module _ (s : State) (a b c d f₀ f₁ f₂ f₃ f₄ f₅ f₆ : ℕ) where
   unfolding encodeState slotBytes slotAt
   encode-is p q r u e₀ e₁ e₂ e₃ e₄ e₅ e₆ = rw (p, q, r, u, e₀, e₁, e₂, e₃, e₄, e₅, e₆)
 
-pub ruleset wholes = (needs, decode-is, encode-is)
+pub ruleset wholes = (needs, window-is, decode-is, encode-is)
 
 pub ruleset parts = (needs, turn-is, slot-is, flag-known, flag-unknown)
 

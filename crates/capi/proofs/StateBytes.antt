@@ -1,6 +1,6 @@
 -- A state's bytes: encoding and decoding gives the state back, and calls over bytes are the calls of the controller's claim
 -- (accuracy, in controller/proofs/Accuracy.antt). Assumes nothing.
-use Prim.Native.Nat.{ℕ, suc, _+_, _-_, _*_, _/_, _%_, _≤_, _<_}
+use Prim.Native.Nat.{ℕ, _-_, _*_, _/_, _%_, _≤_, _<_}
 use mathlib.Core.Path.{_≡_, refl, _∙_, ap, subst}
 use mathlib.Core.Bool.{Bool, true, false, not, cond}
 use mathlib.Core.List.{List, [], _∷_}
@@ -9,7 +9,7 @@ use lib.Dec.{eqb}
 use lib.ListN.{length, getD, length-set}
 use borrow.Author.Tests.{leb-true}
 use Rattle.theory.specs.Fold.{tabulate}
-use Rattle.theory.specs.Answer.{Answer, refused, accepted, onAccepted}
+use Rattle.theory.specs.Answer.{Answer, refused, accepted}
 use Rattle.theory.specs.Exact.{Command, missing, give}
 use Rattle.theory.proofs.Fold.{both-left}
 use Rattle.theory.proofs.Answer.{refused-not-accepted, accepted-same, check-accepted, accepted-on}
@@ -20,7 +20,7 @@ use Rattle.controller.specs.Accuracy.{Call, hear, ask, Progress, afterHearing, 
 use Rattle.controller.specs.Meaning.{openReply}
 use Rattle.controller.specs.declared.state.Slot.{Slot}
 use Rattle.controller.specs.declared.state.State.{State}
-use Rattle.capi.specs.StateBytes.{turnFrom, slotFrom, slotIn, decodeState, flagOf, slotBytes, encodeState}
+use Rattle.capi.specs.StateBytes.{turnFrom, slotFrom, slotIn, windowIn, decodeState, flagOf, slotBytes, encodeState}
 use Rattle.capi.specs.Controlled.{bytesFor, bytesAfter, byteReply, runBytes}
 
 -- a state that has bytes: a turn of four bytes, three held actions, seven slots
@@ -64,7 +64,7 @@ window-back (a ∷ b ∷ c ∷ d ∷ f ∷ g ∷ h ∷ []) e = refl
 window-back (a ∷ b ∷ c ∷ d ∷ f ∷ g ∷ h ∷ j ∷ l) e = absurd (omega arith)
 
 slots-back : (s : State) → length (s .window) ≡ 7 → decodeState (encodeState s) .window ≡ s .window
-unfolding decodeState encodeState slotIn slotBytes slotAt
+unfolding decodeState encodeState windowIn slotIn slotBytes slotAt
 slots-back s e = simp slot-back (window-back (s .window) e)
 
 pub decode-encode : (s : State) → Held s → decodeState (encodeState s) ≡ s
@@ -121,7 +121,7 @@ unfolding decodeState
 three-decoded b = refl
 
 seven-decoded : (b : List ℕ) → length (decodeState b .window) ≡ 7
-unfolding decodeState
+unfolding decodeState windowIn
 seven-decoded b = refl
 
 hear-follows : (b : List ℕ) (a : Answer State) → ((n : State) → a ≡ accepted n → Held n)

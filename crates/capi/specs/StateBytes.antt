@@ -19,12 +19,15 @@ slotFrom known position = record { known = not (eqb known 0); position = positio
 unfoldable pub slotIn : List ℕ → ℕ → Slot
 slotIn b at = slotFrom (getD b at 0) (getD b (1 + at) 0)
 
+unfoldable pub windowIn : List ℕ → List Slot
+windowIn b = slotIn b 7 ∷ slotIn b 9 ∷ slotIn b 11 ∷ slotIn b 13 ∷ slotIn b 15 ∷ slotIn b 17 ∷ slotIn b 19 ∷ []
+
 unfoldable pub decodeState : List ℕ → State
 decodeState b =
     record {
       turn = turnFrom (getD b 0 0) (getD b 1 0) (getD b 2 0) (getD b 3 0);
       last = getD b 4 0 ∷ getD b 5 0 ∷ getD b 6 0 ∷ [];
-      window = slotIn b 7 ∷ slotIn b 9 ∷ slotIn b 11 ∷ slotIn b 13 ∷ slotIn b 15 ∷ slotIn b 17 ∷ slotIn b 19 ∷ [];
+      window = windowIn b;
     }
 
 unfoldable pub flagOf : Slot → ℕ

@@ -4,7 +4,7 @@ use controller::state::State;
 use sheet::form::wide;
 ghost use mathlib.Core.Path.{_≡_};
 ghost use Prim.Native.Nat.{_%_};
-ghost use Rattle.capi.specs.StateBytes.{turnFrom, slotFrom, flagOf, decodeState, encodeState};
+ghost use Rattle.capi.specs.StateBytes.{turnFrom, slotFrom, windowIn, decodeState, flagOf, encodeState};
 
 // The turn from its four bytes, the low one first.
 fn turn_from(a: u8, b: u8, c: u8, d: u8) -> usize
@@ -38,11 +38,9 @@ fn flag(slot: Slot) -> u8
     0
 }
 
-pub(crate) fn decode(b: &[u8; 21]) -> State
-    ensures { λ r. ⌜ r ≡ decodeState (now (b .entry)) ⌝ }
+fn window_in(b: &[u8; 21]) -> [Slot; 7]
+    ensures { λ r. ⌜ r ≡ windowIn (now (b .entry)) ⌝ }
 {
-    let turn = turn_from(b[0], b[1], b[2], b[3]);
-    let last = [b[4], b[5], b[6]];
     let s0 = slot_from(b[7], b[8]);
     let s1 = slot_from(b[9], b[10]);
     let s2 = slot_from(b[11], b[12]);
@@ -50,12 +48,16 @@ pub(crate) fn decode(b: &[u8; 21]) -> State
     let s4 = slot_from(b[15], b[16]);
     let s5 = slot_from(b[17], b[18]);
     let s6 = slot_from(b[19], b[20]);
-    let window = [s0, s1, s2, s3, s4, s5, s6];
-    State {
-        turn,
-        last,
-        window,
-    }
+    [s0, s1, s2, s3, s4, s5, s6]
+}
+
+pub(crate) fn decode(b: &[u8; 21]) -> State
+    ensures { λ r. ⌜ r ≡ decodeState (now (b .entry)) ⌝ }
+{
+    let turn = turn_from(b[0], b[1], b[2], b[3]);
+    let last = [b[4], b[5], b[6]];
+    let window = window_in(b);
+    State { turn, last, window }
 }
 
 pub(crate) fn encode(s: State) -> [u8; 21]

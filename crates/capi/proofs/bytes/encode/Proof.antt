@@ -1,97 +1,72 @@
+-- `encode` meets its contract, by the laws of ByteLaws.antt. Assumes nothing.
 use Rattle.capi.proofs.ByteLaws.{wholes}
 use borrow.Author.Needs.{needs}
 use Rattle.capi.proofs.bytes.encode.Statement.{statement}
 use Rattle.capi.proofs.bytes.encode.Tie as tie
-use Rattle.capi.proofs.bytes.encode.Reads as reads
-use Rattle.capi.proofs.bytes.encode.Lts as lts
-use Rattle.capi.proofs.bytes.flag.Reads as flag-reads
-use Rattle.capi.proofs.bytes.low.Reads as low-reads
 
--- src/bytes.rt:67:14
 array-copy-out-w0 : tie.Need-array-copy-out-w0
 array-copy-out-w0 c = search needs
 
--- src/bytes.rt:68:14
 array-copy-out-w1 : tie.Need-array-copy-out-w1
 array-copy-out-w1 c = search needs
 
--- src/bytes.rt:69:14
 array-copy-out-w2 : tie.Need-array-copy-out-w2
 array-copy-out-w2 c = search needs
 
--- src/bytes.rt:70:14
 array-copy-out-w3 : tie.Need-array-copy-out-w3
 array-copy-out-w3 c = search needs
 
--- src/bytes.rt:71:14
 array-copy-out-w4 : tie.Need-array-copy-out-w4
 array-copy-out-w4 c = search needs
 
--- src/bytes.rt:72:14
 array-copy-out-w5 : tie.Need-array-copy-out-w5
 array-copy-out-w5 c = search needs
 
--- src/bytes.rt:73:14
 array-copy-out-w6 : tie.Need-array-copy-out-w6
 array-copy-out-w6 c = search needs
 
--- src/bytes.rt:75:9
 low-requires : tie.Need-low-requires
 low-requires c κs = search needs
 
--- src/bytes.rt:76:9
 low-requires-2 : tie.Need-low-requires-2
 low-requires-2 c κs = search needs
 
--- src/bytes.rt:77:9
 low-requires-3 : tie.Need-low-requires-3
 low-requires-3 c κs = search needs
 
--- src/bytes.rt:78:9
 low-requires-4 : tie.Need-low-requires-4
 low-requires-4 c κs = search needs
 
--- src/bytes.rt:79:9
 array-read-t39 : tie.Need-array-read-t39
 array-read-t39 c = search needs
 
--- src/bytes.rt:80:9
 array-read-t42 : tie.Need-array-read-t42
 array-read-t42 c = search needs
 
--- src/bytes.rt:81:9
 array-read-t45 : tie.Need-array-read-t45
 array-read-t45 c = search needs
 
--- src/bytes.rt:82:9
 flag-requires : tie.Need-flag-requires
 flag-requires c κs = search needs
 
--- src/bytes.rt:84:9
 flag-requires-2 : tie.Need-flag-requires-2
 flag-requires-2 c κs = search needs
 
--- src/bytes.rt:86:9
 flag-requires-3 : tie.Need-flag-requires-3
 flag-requires-3 c κs = search needs
 
--- src/bytes.rt:88:9
 flag-requires-4 : tie.Need-flag-requires-4
 flag-requires-4 c κs = search needs
 
--- src/bytes.rt:90:9
 flag-requires-5 : tie.Need-flag-requires-5
 flag-requires-5 c κs = search needs
 
--- src/bytes.rt:92:9
 flag-requires-6 : tie.Need-flag-requires-6
 flag-requires-6 c κs = search needs
 
--- src/bytes.rt:94:9
 flag-requires-7 : tie.Need-flag-requires-7
 flag-requires-7 c κs = search needs
 
--- src/bytes.rt:61:1
 returns : tie.Need-returns
 returns c = search wholes
 
