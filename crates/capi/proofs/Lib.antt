@@ -1,2 +1,4 @@
--- Laws of specs/, on which the proofs of the functions rest.
+-- Laws of specs/, on which the proofs of the functions rest, and the theorems over a state's bytes.
 pub mod ExportLaws
+pub mod ByteLaws
+pub mod StateBytes

@@ -4,8 +4,12 @@ use Prim.Native.Nat.{ℕ}
 use mathlib.Core.List.{List, [], _∷_}
 use Rattle.theory.specs.Answer.{Answer, refused, accepted}
 use Rattle.theory.specs.Delay.{Verdict, wins, losing}
+use Rattle.sheet.specs.Limits.{width}
+use Rattle.sheet.specs.Form.{placedAt}
 use Rattle.sheet.specs.declared.reading.Layout.{Layout}
 use Rattle.solver.specs.Solving.{Solved}
+use Rattle.table.specs.TableSheet.{TableSheet}
+use Rattle.table.specs.Making.{Measured}
 
 -- the number of a refusal, 0 where the answer is accepted
 unfoldable pub numberFor : {A : Type 0} → Answer A → ℕ
@@ -39,3 +43,17 @@ losingNumber (losing m) = m
 unfoldable pub losingAfter : Answer Solved → ℕ → ℕ
 losingAfter (refused n) before = before
 losingAfter (accepted a) before = losingNumber (a .verdict)
+
+-- the same of making, and the made sheet's length
+unfoldable pub madeLosing : Answer Measured → ℕ → ℕ
+madeLosing (refused n) before = before
+madeLosing (accepted a) before = losingNumber (a .verdict)
+
+unfoldable pub sizeAfter : Answer Measured → ℕ → ℕ
+sizeAfter (refused n) before = before
+sizeAfter (accepted a) before = a .size
+
+-- offset and length of the T body of the table sheet s
+unfoldable pub placeAfter : List ℕ → Answer TableSheet → List ℕ → List ℕ
+placeAfter s (refused n) place = place
+placeAfter s (accepted x) place = placedAt width s 2 .at ∷ placedAt width s 2 .size ∷ []

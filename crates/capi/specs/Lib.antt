@@ -1,2 +1,4 @@
 -- What the exported functions answer and leave. Each file says what it defines.
 pub mod Exported
+pub mod StateBytes
+pub mod Controlled

@@ -1,4 +1,8 @@
 // Reading and solving for C and Rust callers (include/loquatquoits.h). Every function takes any bytes and any lengths.
+pub mod tables; // making sheets, and the masks of a table sheet
+pub mod bytes; // the controller's state as bytes
+pub mod control; // opening, hearing, giving
+
 use sheet::reading::Reading;
 use sheet::reading::read;
 use sheet::reading::refusal_number;

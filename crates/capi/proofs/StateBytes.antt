@@ -1,0 +1,159 @@
+-- A state's bytes: encoding and decoding gives the state back, and calls over bytes are the calls of the controller's claim
+-- (accuracy, in controller/proofs/Accuracy.antt). Assumes nothing.
+use Prim.Native.Nat.{ℕ, _-_, _*_, _/_, _%_, _≤_, _<_}
+use mathlib.Core.Path.{_≡_, refl, _∙_, ap, subst}
+use mathlib.Core.Bool.{Bool, true, false, not, cond}
+use mathlib.Core.List.{List, [], _∷_}
+use native.Mathlib.Omega.{arith}
+use lib.Dec.{eqb}
+use lib.ListN.{length, getD, length-set}
+use borrow.Author.Tests.{leb-true}
+use Rattle.theory.specs.Fold.{tabulate}
+use Rattle.theory.specs.Answer.{Answer, refused, accepted}
+use Rattle.theory.specs.Exact.{Command, missing, give}
+use Rattle.theory.proofs.Fold.{both-left}
+use Rattle.theory.proofs.Answer.{refused-not-accepted, accepted-same, check-accepted, accepted-on}
+use Rattle.table.specs.TableSheet.{TableSheet, tableAnswer}
+use Rattle.controller.specs.State.{million, unknown, seen, opened, slotAt, stateOk, observed, pushed, shifted, gaveState}
+use Rattle.controller.specs.Controller.{Gave, observeWith, obey, commandIn, actWith, openAnswer, observeAnswer, actAnswer}
+use Rattle.controller.specs.Accuracy.{Call, hear, ask, Progress, afterHearing, afterGiving, reply, callStep, runCalls}
+use Rattle.controller.specs.Meaning.{openReply}
+use Rattle.controller.specs.declared.state.Slot.{Slot}
+use Rattle.controller.specs.declared.state.State.{State}
+use Rattle.capi.specs.StateBytes.{turnFrom, slotFrom, slotIn, windowIn, decodeState, flagOf, slotBytes, encodeState}
+use Rattle.capi.specs.Controlled.{bytesFor, bytesAfter, byteReply, runBytes}
+
+-- a state that has bytes: a turn of four bytes, three held actions, seven slots
+pub record Held (s : State) : Type 0 where
+  pub short-turn : s .turn < 4294967296
+  pub three : length (s .last) ≡ 3
+  pub seven : length (s .window) ≡ 7
+
+-- decoding what was encoded
+
+turn-back : (t : ℕ) → t < 4294967296 → turnFrom (t % 256) (t / 256 % 256) (t / 256 / 256 % 256) (t / 256 / 256 / 256 % 256) ≡ t
+unfolding turnFrom
+turn-back t h = omega arith
+
+known-back : (b : Bool) → not (eqb (cond b 1 0) 0) ≡ b
+known-back true = refl
+known-back false = refl
+
+slot-back : (v : Slot) → slotFrom (flagOf v) (v .position) ≡ v
+unfolding slotFrom flagOf
+slot-back v = λ i. record { known = known-back (v .known) i; position = v .position }
+
+actions-back : (l : List ℕ) → length l ≡ 3 → getD l 0 0 ∷ getD l 1 0 ∷ getD l 2 0 ∷ [] ≡ l
+actions-back [] e = absurd (omega arith)
+actions-back (a ∷ []) e = absurd (omega arith)
+actions-back (a ∷ b ∷ []) e = absurd (omega arith)
+actions-back (a ∷ b ∷ c ∷ []) e = refl
+actions-back (a ∷ b ∷ c ∷ d ∷ l) e = absurd (omega arith)
+
+window-back : (l : List Slot) → length l ≡ 7
+    → getD l 0 unknown ∷ getD l 1 unknown ∷ getD l 2 unknown ∷ getD l 3 unknown ∷ getD l 4 unknown ∷ getD l 5 unknown ∷ getD l 6 unknown ∷ []
+    ≡ l
+window-back [] e = absurd (omega arith)
+window-back (a ∷ []) e = absurd (omega arith)
+window-back (a ∷ b ∷ []) e = absurd (omega arith)
+window-back (a ∷ b ∷ c ∷ []) e = absurd (omega arith)
+window-back (a ∷ b ∷ c ∷ d ∷ []) e = absurd (omega arith)
+window-back (a ∷ b ∷ c ∷ d ∷ f ∷ []) e = absurd (omega arith)
+window-back (a ∷ b ∷ c ∷ d ∷ f ∷ g ∷ []) e = absurd (omega arith)
+window-back (a ∷ b ∷ c ∷ d ∷ f ∷ g ∷ h ∷ []) e = refl
+window-back (a ∷ b ∷ c ∷ d ∷ f ∷ g ∷ h ∷ j ∷ l) e = absurd (omega arith)
+
+slots-back : (s : State) → length (s .window) ≡ 7 → decodeState (encodeState s) .window ≡ s .window
+unfolding decodeState encodeState windowIn slotIn slotBytes slotAt
+slots-back s e = simp slot-back (window-back (s .window) e)
+
+pub decode-encode : (s : State) → Held s → decodeState (encodeState s) ≡ s
+unfolding decodeState encodeState slotBytes
+decode-encode s h =
+    λ i. record {
+      turn = turn-back (s .turn) (h .short-turn) i;
+      last = actions-back (s .last) (h .three) i;
+      window = slots-back s (h .seven) i;
+    }
+
+-- the next state of an accepted call has bytes
+
+module _ (t : List ℕ) (s : State) (three : length (s .last) ≡ 3) (seven : length (s .window) ≡ 7) where
+  turn-few : (x : TableSheet) → stateOk x s ≡ true → s .turn ≤ million
+  unfolding stateOk
+  turn-few x e = leb-true (s .turn) million (both-left _ _ e)
+
+  heard-held : (k p : ℕ) (n : State) → observeAnswer t s k p ≡ accepted n → Held n
+  unfolding observeAnswer observeWith
+  heard-held k p n e =
+      let a = accepted-on (tableAnswer t) _ e in
+      let b = check-accepted _ 20 _ (a .2) in
+      let c = check-accepted _ 16 _ (b .1) in
+      let d = check-accepted _ 17 _ (c .1) in
+      let f = check-accepted _ 18 _ (d .1) in
+      let g = check-accepted _ 19 _ (f .1) in
+      let few = turn-few (a .0) (b .0) in
+      let held : Held (observed s k p) = record { short-turn = omega (arith, few); three = three; seven = length-set (s .window) (2 * s .turn - k) (seen p) ∙ seven } in
+      subst Held (accepted-same (g .1)) held
+
+  gave-held : (d a : ℕ) → s .turn ≤ million → Held (gaveState d s a)
+  unfolding pushed shifted tabulate
+  gave-held d a few = record { short-turn = omega (arith, few); three = refl; seven = refl }
+
+  obeyed-held : (x : TableSheet) (c : Command) (g : Gave) → s .turn ≤ million → obey x s c ≡ accepted g → Held (g .state)
+  unfolding obey
+  obeyed-held x missing g few e = absurd (refused-not-accepted e)
+  obeyed-held x (give a) g few e = subst (λ (g : Gave). Held (g .state)) (accepted-same e) (gave-held (x .delay) a few)
+
+  given-held : (g : Gave) → actAnswer t s ≡ accepted g → Held (g .state)
+  unfolding actAnswer actWith
+  given-held g e =
+      let a = accepted-on (tableAnswer t) _ e in
+      let b = check-accepted _ 20 _ (a .2) in
+      let c = check-accepted _ 15 _ (b .1) in
+      let d = check-accepted _ 13 _ (c .1) in
+      obeyed-held (a .0) (commandIn (a .0) s) g (turn-few (a .0) (b .0)) (d .1)
+
+-- calls over bytes
+
+three-decoded : (b : List ℕ) → length (decodeState b .last) ≡ 3
+unfolding decodeState
+three-decoded b = refl
+
+seven-decoded : (b : List ℕ) → length (decodeState b .window) ≡ 7
+unfolding decodeState windowIn
+seven-decoded b = refl
+
+hear-follows : (b : List ℕ) (a : Answer State) → ((n : State) → a ≡ accepted n → Held n)
+    → decodeState (bytesAfter (afterHearing (decodeState b) a) b) ≡ afterHearing (decodeState b) a .state
+unfolding bytesAfter bytesFor
+hear-follows b (refused n) f = refl
+hear-follows b (accepted n) f = decode-encode n (f n refl)
+
+ask-follows : (b : List ℕ) (a : Answer Gave) → ((g : Gave) → a ≡ accepted g → Held (g .state))
+    → decodeState (bytesAfter (afterGiving (decodeState b) a) b) ≡ afterGiving (decodeState b) a .state
+unfolding bytesAfter bytesFor
+ask-follows b (refused n) f = refl
+ask-follows b (accepted g) f = decode-encode (g .state) (f g refl)
+
+-- for any bytes: what a call leaves decodes to the state that the controller's call leaves
+pub bytes-follow : (t b : List ℕ) (c : Call) → decodeState (bytesAfter (byteReply t b c) b) ≡ byteReply t b c .state
+bytes-follow t b (hear k p) =
+    hear-follows b (observeAnswer t (decodeState b) k p) (heard-held t (decodeState b) (three-decoded b) (seven-decoded b) k p)
+bytes-follow t b ask = ask-follows b (actAnswer t (decodeState b)) (given-held t (decodeState b) (three-decoded b) (seven-decoded b))
+
+opened-back : decodeState (encodeState opened) ≡ opened
+opened-back = decode-encode opened (record { short-turn = omega arith; three = refl; seven = refl })
+
+-- an accepted opening leaves bytes that decode to the opened state
+pub open-follows : (t b : List ℕ) → openAnswer t ≡ accepted opened → decodeState (bytesAfter (openReply t) b) ≡ opened
+unfolding openReply bytesAfter bytesFor
+open-follows t b e = rw e opened-back
+
+-- a list of calls: the state that its bytes decode to is the one of the controller's list, call after call
+pub calls-follow : (t b : List ℕ) (s : Progress) (calls : List Call) → decodeState b ≡ s .state
+    → decodeState (runBytes t b calls) ≡ runCalls t s calls .state
+unfolding runBytes runCalls callStep
+calls-follow t b s [] e = e
+calls-follow t b s (c ∷ later) e =
+    calls-follow t (bytesAfter (byteReply t b c) b) (callStep t s c) later (bytes-follow t b c ∙ ap (λ (s : State). reply t s c .state) e)

@@ -1,0 +1,68 @@
+// Opening, hearing a report and giving a command for C and Rust callers, who keep the state as bytes. Every function takes any bytes.
+use crate::bytes::decode;
+use crate::bytes::encode;
+use controller::calls::Decision;
+use controller::calls::Step;
+use controller::calls::act;
+use controller::calls::observe;
+use controller::calls::opening;
+use sheet::refusal::number;
+ghost use mathlib.Core.Path.{_≡_};
+ghost use Rattle.controller.specs.Accuracy.{hear, ask};
+ghost use Rattle.controller.specs.Meaning.{meaning, openReply};
+ghost use Rattle.capi.specs.Controlled.{outcomeNumber, bytesAfter, actionAfter, byteReply};
+
+// The answer's number; the bytes of the next state, where nothing was refused.
+fn conclude(step: Step, state: &mut [u8; 21]) -> u8
+    ensures number { λ r. ⌜ r ≡ outcomeNumber (meaning step .outcome) ⌝ }
+    ensures state { λ r. ⌜ now (state .exit) ≡ bytesAfter (meaning step) (now (state .entry)) ⌝ }
+{
+    let decision = step.decision;
+    match decision {
+        Decision::Refused(reason) => number(reason),
+        Decision::Accepted => {
+            *state = encode(step.state);
+            0
+        }
+        Decision::Given(_) => {
+            *state = encode(step.state);
+            0
+        }
+    }
+}
+
+#[no_mangle]
+pub extern "C" fn lq_open(sheet: &[u8], state: &mut [u8; 21]) -> u8
+    ensures number { λ r. ⌜ r ≡ outcomeNumber (openReply (now (sheet .entry)) .outcome) ⌝ }
+    ensures state { λ r. ⌜ now (state .exit) ≡ bytesAfter (openReply (now (sheet .entry))) (now (state .entry)) ⌝ }
+{
+    let step = opening(sheet);
+    conclude(step, state)
+}
+
+#[no_mangle]
+pub extern "C" fn lq_observe(sheet: &[u8], state: &mut [u8; 21], index: usize, position: u8) -> u8
+    ensures number { λ r. ⌜ r ≡ outcomeNumber (byteReply (now (sheet .entry)) (now (state .entry)) (hear index position) .outcome) ⌝ }
+    ensures state { λ r. ⌜ now (state .exit) ≡ bytesAfter (byteReply (now (sheet .entry)) (now (state .entry)) (hear index position)) (now (state .entry)) ⌝ }
+{
+    let step = observe(sheet, decode(state), index, position);
+    conclude(step, state)
+}
+
+#[no_mangle]
+pub extern "C" fn lq_act(sheet: &[u8], state: &mut [u8; 21], action: &mut u8) -> u8
+    ensures number { λ r. ⌜ r ≡ outcomeNumber (byteReply (now (sheet .entry)) (now (state .entry)) ask .outcome) ⌝ }
+    ensures state { λ r. ⌜ now (state .exit) ≡ bytesAfter (byteReply (now (sheet .entry)) (now (state .entry)) ask) (now (state .entry)) ⌝ }
+    ensures action { λ r. ⌜ now (action .exit) ≡ actionAfter (byteReply (now (sheet .entry)) (now (state .entry)) ask .outcome) (now (action .entry)) ⌝ }
+{
+    let step = act(sheet, decode(state));
+    let decision = step.decision;
+    match decision {
+        Decision::Given(a) => {
+            *action = a;
+            conclude(step, state)
+        }
+        Decision::Accepted => conclude(step, state),
+        Decision::Refused(_) => conclude(step, state),
+    }
+}

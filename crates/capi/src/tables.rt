@@ -1,0 +1,59 @@
+// Making sheets and reading a table sheet for C and Rust callers. Every function takes any bytes and any lengths.
+use sheet::form::placed;
+use sheet::refusal::number;
+use table::making::Making;
+use table::making::make;
+use table::reading::TableReading;
+use table::reading::read;
+ghost use mathlib.Core.Path.{_≡_};
+ghost use lib.ListN.{length};
+ghost use Rattle.solver.specs.Solving.{solveAnswer, masksAfter, ranksLeft};
+ghost use Rattle.table.specs.Making.{makeAnswer, ifMade, outputAfter, measured};
+ghost use Rattle.table.specs.TableSheet.{tableAnswer};
+ghost use Rattle.capi.specs.Exported.{numberFor, sizeAfter, madeLosing, placeAfter};
+
+#[no_mangle]
+pub extern "C" fn lq_make(
+    sheet: &[u8],
+    masks: &mut [u8],
+    ranks: &mut [u16],
+    out: &mut [u8],
+    size: &mut usize,
+    losing: &mut u8,
+) -> u8
+    ensures number { λ r. ⌜ r ≡ numberFor (measured (makeAnswer (now (sheet .entry)) (length (now (masks .entry))) (length (now (ranks .entry))) (length (now (out .entry))))) ⌝ }
+    ensures masks { λ r. ⌜ now (masks .exit) ≡ ifMade (makeAnswer (now (sheet .entry)) (length (now (masks .entry))) (length (now (ranks .entry))) (length (now (out .entry)))) (now (masks .entry)) (masksAfter (now (sheet .entry)) (solveAnswer (now (sheet .entry)) (length (now (masks .entry))) (length (now (ranks .entry)))) (now (masks .entry))) ⌝ }
+    ensures ranks { λ r. ⌜ now (ranks .exit) ≡ ifMade (makeAnswer (now (sheet .entry)) (length (now (masks .entry))) (length (now (ranks .entry))) (length (now (out .entry)))) (now (ranks .entry)) (ranksLeft (now (sheet .entry)) (solveAnswer (now (sheet .entry)) (length (now (masks .entry))) (length (now (ranks .entry)))) (now (ranks .entry))) ⌝ }
+    ensures output { λ r. ⌜ now (out .exit) ≡ outputAfter (makeAnswer (now (sheet .entry)) (length (now (masks .entry))) (length (now (ranks .entry))) (length (now (out .entry)))) (now (out .entry)) ⌝ }
+    ensures size { λ r. ⌜ now (size .exit) ≡ sizeAfter (measured (makeAnswer (now (sheet .entry)) (length (now (masks .entry))) (length (now (ranks .entry))) (length (now (out .entry))))) (now (size .entry)) ⌝ }
+    ensures losing { λ r. ⌜ now (losing .exit) ≡ madeLosing (measured (makeAnswer (now (sheet .entry)) (length (now (masks .entry))) (length (now (ranks .entry))) (length (now (out .entry))))) (now (losing .entry)) ⌝ }
+{
+    let making = make(sheet, masks, ranks, out);
+    match making {
+        Making::Refused(reason) => reason,
+        Making::Winning(n) => {
+            *size = n;
+            *losing = 255;
+            0
+        }
+        Making::Losing(m, n) => {
+            *size = n;
+            *losing = m;
+            0
+        }
+    }
+}
+
+#[no_mangle]
+pub extern "C" fn lq_masks(sheet: &[u8], place: &mut [usize; 2]) -> u8
+    ensures number { λ r. ⌜ r ≡ numberFor (tableAnswer (now (sheet .entry))) ⌝ }
+    ensures place { λ r. ⌜ now (place .exit) ≡ placeAfter (now (sheet .entry)) (tableAnswer (now (sheet .entry))) (now (place .entry)) ⌝ }
+{
+    let reading = read(sheet);
+    if let TableReading::Refused(reason) = reading {
+        return number(reason);
+    }
+    let masks = placed(sheet, 2);
+    *place = [masks.at, masks.size];
+    0
+}
