@@ -73,16 +73,6 @@ pub either-none : (a b : Bool) → a ≡ false → b ≡ false → either a b �
 unfolding either
 either-none a b p q = rw p q
 
-pub either-none-left : (a b : Bool) → either a b ≡ false → a ≡ false
-unfolding either
-either-none-left true b e = e
-either-none-left false b e = refl
-
-pub either-none-right : (a b : Bool) → either a b ≡ false → b ≡ false
-unfolding either
-either-none-right true b e = absurd (true≢false e)
-either-none-right false b e = e
-
 pub either-second : (a b : Bool) → a ≡ false → either a b ≡ b
 unfolding either
 either-second a b e = rw e
@@ -161,11 +151,6 @@ all-short p {c} {n} l e =
 pub all-done : (p : ℕ → Bool) {k n : ℕ} → k ≤ n → n ≤ k → allBelow p k ≡ true → allBelow p n ≡ true
 all-done p {k} {n} l g e = let q : n ≡ k = omega arith in rw q e
 
-pub all-same : (p q : ℕ → Bool) (n : ℕ) → ((i : ℕ) → i < n → p i ≡ q i) → allBelow p n ≡ allBelow q n
-all-same p q zero f = all-none p ∙ sym (all-none q)
-all-same p q (suc n) f =
-    rw (all-suc p n, all-suc q n, all-same p q n (λ i h. f i (omega arith)), f n (omega arith))
-
 -- the least index that fails
 
 pub first-suc : (p : ℕ → Bool) (n : ℕ) → firstNot p (suc n) ≡ cond (allBelow p n) n (firstNot p n)
@@ -228,13 +213,6 @@ any-some p (suc n) e =
     (λ (t : p n ≡ true). (n, omega arith, t))
     (either-cases _ _ (rw (any-suc p n) at e))
 
-pub any-fails : (p : ℕ → Bool) (n : ℕ) → ((i : ℕ) → i < n → p i ≡ false) → anyBelow p n ≡ false
-any-fails p n f =
-    ⊎-elim
-    (λ (t : anyBelow p n ≡ true). let r = any-some p n t in absurd (not-both (r .2) (f (r .0) (r .1))))
-    (λ e. e)
-    (bool (anyBelow p n))
-
 pub any-below-none : (p : ℕ → Bool) (n : ℕ) → anyBelow p n ≡ false → (i : ℕ) → i < n → p i ≡ false
 any-below-none p n e i h =
     ⊎-elim (λ (t : p i ≡ true). absurd (not-both (any-holds p i n h t) e)) (λ f. f) (bool (p i))
@@ -245,11 +223,6 @@ any-again p i e q t = rw (add-one i, any-suc p i) (either-none _ _ e (sym q ∙ 
 
 pub any-done : (p : ℕ → Bool) {k n : ℕ} → k ≤ n → n ≤ k → anyBelow p k ≡ false → anyBelow p n ≡ false
 any-done p {k} {n} l g e = let q : n ≡ k = omega arith in rw q e
-
-pub any-same : (p q : ℕ → Bool) (n : ℕ) → ((i : ℕ) → i < n → p i ≡ q i) → anyBelow p n ≡ anyBelow q n
-any-same p q zero f = any-none p ∙ sym (any-none q)
-any-same p q (suc n) f =
-    rw (any-suc p n, any-suc q n, any-same p q n (λ i h. f i (omega arith)), f n (omega arith))
 
 -- some element of a list
 

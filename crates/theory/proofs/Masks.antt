@@ -106,9 +106,6 @@ pub mask-same : (p q : ℕ → Bool) (n : ℕ) → ((c : ℕ) → c < n → p c 
 mask-same p q n f =
     bits-ext n _ _ (mask-lt p n) (mask-lt q n) (λ c h. mask-bit p n c h ∙ f c h ∙ sym (mask-bit q n c h))
 
-pub mask-none : (p : ℕ → Bool) (n : ℕ) → ((c : ℕ) → c < n → p c ≡ false) → maskBelow p n ≡ 0
-mask-none p n f = bits-ext n _ 0 (mask-lt p n) (pow-pos n) (λ c h. mask-bit p n c h ∙ f c h ∙ sym (zero-bit c))
-
 pub mask-some : (p : ℕ → Bool) (n c : ℕ) → c < n → p c ≡ true → maskBelow p n ≡ 0 → ⊥
 mask-some p n c h e z = not-both e (sym (mask-bit p n c h) ∙ ap (λ (m : ℕ). bit m c) z ∙ zero-bit c)
 

@@ -47,13 +47,6 @@ module _ {G : Game} where
   back-play (suc k) (acted c q p e) = back-play k p
   back-play (suc k) (moved r p m) = back-play k p
 
-  -- the last move of a play
-  pub acted-play : {π : Play} {c q : ℕ} → IsPlay G (act π c q) → IsPlay G π × (G .target (last G π) c ≡ to q)
-  acted-play (acted c q p e) = (p, e)
-
-  pub moved-play : {π : Play} {r : ℕ} → IsPlay G (move π r) → IsPlay G π × List·Memᴰ r (G .moves (last G π))
-  moved-play (moved r p m) = (p, m)
-
 -- consistent plays
 
 module _ {G : Game} {A d : ℕ} {σ : Strategy A d} where
