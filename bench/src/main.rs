@@ -1,10 +1,12 @@
-//! The proved solver against a hand-written version of the same rounds and against the naive solver, in one run on one machine.
+//! The proved solver against a hand-written version of the same rounds and against the naive solver, and the proved cabin against a
+//! hand-written one, in one run on one machine.
 use loquatquoits_tests::naive::{self, Game, Rule, Verdict};
 use loquatquoits_tests::proved;
 use loquatquoits_tests::random::Random;
 use loquatquoits_tests::sheets::{random_yard, Shape, Yard};
 use std::time::{Duration, Instant};
 
+mod cabin;
 mod hand;
 
 /// The least of several times of one run, the buffers cleared before each.
@@ -70,6 +72,52 @@ fn chain(links: usize) -> Yard {
     Yard { start: 0, actions: 2, delay: 0, kinds, targets, moves }
 }
 
+/// A yard with as many pairs as there may be, which wins: any command leads round.
+fn round_about() -> Yard {
+    let own = |k: usize| (2 * k) as u8;
+    let other = |k: usize| (2 * k + 1) as u8;
+    let targets = (0..128).flat_map(|k| (0..8).map(move |c| [own(k), c, other(k)])).collect();
+    let moves = (0..128).map(|k| [other(k), own((k + 1) % 128)]).collect();
+    Yard { start: 0, actions: 8, delay: 4, kinds: (0..256).map(|p| if p % 2 == 0 { 0 } else { 2 }).collect(), targets, moves }
+}
+
+/// Turns a second at the largest table: each turn hears the report that is needed and gives the command.
+fn measure_cabin() {
+    let yard = round_about();
+    let n = yard.pairs();
+    let (sheet, losing) = proved::make(&yard.sheet(), &mut vec![0; n], &mut vec![0; n], 50_000).unwrap();
+    assert_eq!(losing, None);
+    let position = |index: usize| (index % 256) as u8;
+    let turns = 20_000;
+    let by_proof = time(3, || {
+        let mut state = proved::open(&sheet).unwrap();
+        for i in 0..turns {
+            if 2 * i >= 4 {
+                proved::observe(&sheet, &mut state, 2 * i - 4, position(2 * i - 4)).unwrap();
+            }
+            assert_eq!(proved::act(&sheet, &mut state), Ok(0));
+        }
+    });
+    let by_hand = time(3, || {
+        let mut cabin = cabin::Cabin::open();
+        for i in 0..turns {
+            if 2 * i >= 4 {
+                assert!(cabin.observe(&sheet, 2 * i - 4, position(2 * i - 4)));
+            }
+            assert_eq!(cabin.act(&sheet), Some(0));
+        }
+    });
+    let rate = |time: Duration| turns as f64 / time.as_secs_f64();
+    println!("| cabin | turns a second, proved | by hand | proved / by hand, time |");
+    println!("|---|---|---|---|");
+    println!(
+        "| {n} pairs, every call reads the sheet | {:.0} | {:.0} | {:.2} |",
+        rate(by_proof),
+        rate(by_hand),
+        by_proof.as_secs_f64() / by_hand.as_secs_f64()
+    );
+}
+
 fn main() {
     println!("| yard | pairs | rounds | proved | by hand | proved / by hand | naive | naive / proved |");
     println!("|---|---|---|---|---|---|---|---|");
@@ -85,4 +133,6 @@ fn main() {
         measure(name, &random_yard(&mut random, &shape).at(delay));
     }
     measure("chain of 127 links, lag 0", &chain(127));
+    println!();
+    measure_cabin();
 }

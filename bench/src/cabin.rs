@@ -1,0 +1,87 @@
+//! A cabin written by hand: the same checks on every call, over the caller's bytes, and a state with the same fields.
+
+pub struct Cabin {
+    turn: usize,
+    last: [u8; 3],
+    window: [Option<u8>; 7],
+}
+
+struct Table<'a> {
+    actions: u8,
+    delay: usize,
+    highest: u8,
+    words: &'a [u8],
+    masks: &'a [u8],
+}
+
+fn read(sheet: &[u8]) -> Option<Table<'_>> {
+    if sheet.len() < 15 {
+        return None;
+    }
+    let number = |i: usize| sheet[i] as usize + 256 * sheet[i + 1] as usize;
+    let mut at = 15;
+    let mut bodies = [&sheet[..0]; 3];
+    for (k, letter) in b"SWT".iter().enumerate() {
+        let size = number(5 * k + 3);
+        if sheet[5 * k] != *letter || number(5 * k + 1) != at || sheet.len() < at + size {
+            return None;
+        }
+        bodies[k] = &sheet[at..at + size];
+        at += size;
+    }
+    let [s, words, masks] = bodies;
+    if at != sheet.len() || s.len() != 4 || s[1] < 1 || s[1] > 8 || s[2] > 6 || s[0] > s[3] {
+        return None;
+    }
+    let (a, delay) = (s[1] as usize, s[2] as usize);
+    let pairs = (s[3] as usize + 1) * a.pow(delay as u32 / 2);
+    let fits = pairs <= 16_384
+        && words.len() == a.pow((delay as u32 + 1) / 2)
+        && masks.len() == pairs
+        && words.iter().all(|&flag| flag <= 1)
+        && masks.iter().all(|&mask| (mask as u32) < 1 << a)
+        && words.contains(&1);
+    fits.then_some(Table { actions: s[1], delay, highest: s[3], words, masks })
+}
+
+impl Cabin {
+    pub fn open() -> Cabin {
+        Cabin { turn: 0, last: [0; 3], window: [None; 7] }
+    }
+
+    pub fn observe(&mut self, sheet: &[u8], index: usize, position: u8) -> bool {
+        let Some(table) = read(sheet) else { return false };
+        if position > table.highest || index > 2 * self.turn || index + table.delay < 2 * self.turn {
+            return false;
+        }
+        self.window[2 * self.turn - index] = Some(position);
+        true
+    }
+
+    pub fn act(&mut self, sheet: &[u8]) -> Option<u8> {
+        let table = read(sheet)?;
+        let a = table.actions as usize;
+        let command = if 2 * self.turn < table.delay {
+            let length = (table.delay + 1) / 2;
+            let word = table.words.iter().position(|&flag| flag == 1)?;
+            (word / a.pow((length - 1 - self.turn) as u32) % a) as u8
+        } else {
+            let position = self.window[table.delay]?;
+            let half = table.delay / 2;
+            let word = self.last[..half].iter().rev().fold(0, |w, &c| w * a + c as usize);
+            let mask = table.masks[position as usize * a.pow(half as u32) + word];
+            if mask == 0 {
+                return None;
+            }
+            mask.trailing_zeros() as u8
+        };
+        self.turn += 1;
+        self.last = [command, self.last[0], self.last[1]];
+        let old = self.window;
+        self.window = [None; 7];
+        for k in 2..=table.delay {
+            self.window[k] = old[k - 2];
+        }
+        Some(command)
+    }
+}
