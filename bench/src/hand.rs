@@ -1,4 +1,4 @@
-//! The same rounds written by hand over flat arrays: what an engineer would write without proofs.
+//! The same reading and the same rounds written by hand over flat arrays: what an engineer would write without proofs.
 
 pub struct Hand {
     positions: usize,
@@ -13,15 +13,55 @@ pub struct Hand {
 
 const ABSENT: u16 = 256;
 
+/// The bodies of a sheet that passes checks 1 to 7.
+fn read(sheet: &[u8]) -> Option<[&[u8]; 4]> {
+    if sheet.len() < 20 {
+        return None;
+    }
+    let number = |i: usize| sheet[i] as usize + 256 * sheet[i + 1] as usize;
+    let mut at = 20;
+    let mut bodies = [&sheet[..0]; 4];
+    for (k, letter) in b"SPCU".iter().enumerate() {
+        let size = number(5 * k + 3);
+        if sheet[5 * k] != *letter || number(5 * k + 1) != at || sheet.len() < at + size {
+            return None;
+        }
+        bodies[k] = &sheet[at..at + size];
+        at += size;
+    }
+    let [s, p, c, u] = bodies;
+    let own = |q: u8| p.get(q as usize).is_some_and(|&kind| kind < 2);
+    let other = |q: u8| p.get(q as usize).is_some_and(|&kind| kind >= 2);
+    let rising = |b: &[u8], width: usize| {
+        b.chunks(width).zip(b.chunks(width).skip(1)).all(|(x, y)| (x[0], x[1]) < (y[0], y[1]))
+    };
+    let mut leaves = [false; 256];
+    c.chunks(3).for_each(|line| leaves[line[0] as usize] = true);
+    u.chunks(2).for_each(|line| leaves[line[0] as usize] = true);
+    let right = at == sheet.len()
+        && !p.is_empty()
+        && p.len() <= 256
+        && p.iter().all(|&kind| kind <= 3)
+        && s.len() == 3
+        && (1..=8).contains(&s[1])
+        && s[2] <= 6
+        && own(s[0])
+        && c.len() % 3 == 0
+        && c.chunks(3).all(|line| own(line[0]) && line[1] < s[1] && other(line[2]))
+        && rising(c, 3)
+        && u.len() % 2 == 0
+        && u.len() <= 8192
+        && u.chunks(2).all(|line| other(line[0]) && own(line[1]))
+        && rising(u, 2)
+        && leaves[..p.len()].iter().all(|&leaves| leaves)
+        && p.len() * (s[1] as usize).pow(s[2] as u32 / 2) <= 16_384;
+    right.then_some(bodies)
+}
+
 impl Hand {
-    /// From an accepted sheet.
+    /// From a sheet that is accepted.
     pub fn new(sheet: &[u8]) -> Hand {
-        let body = |k: usize| {
-            let number = |i: usize| sheet[i] as usize + 256 * sheet[i + 1] as usize;
-            let at = number(5 * k + 1);
-            &sheet[at..at + number(5 * k + 3)]
-        };
-        let (s, p, c, u) = (body(0), body(1), body(2), body(3));
+        let [s, p, c, u] = read(sheet).unwrap();
         let mut grid = vec![[ABSENT; 8]; p.len()];
         for line in c.chunks(3) {
             grid[line[0] as usize][line[1] as usize] = line[2] as u16;

@@ -62,6 +62,20 @@ fn measure(name: &str, yard: &Yard) {
     );
 }
 
+/// A random yard in which the asked lag wins, so that the rounds go through all of its pairs: with every command permitted and, if need
+/// be, nothing unsafe.
+fn winning_yard(random: &mut Random, shape: &Shape, delay: u8) -> Yard {
+    for unsafe_positions in [shape.unsafe_positions, 0] {
+        let open = Shape { permitted: 100, unsafe_positions, ..*shape };
+        let yard = random_yard(random, &open).at(delay);
+        let n = yard.pairs();
+        if proved::solve(&yard.sheet(), &mut vec![0; n], &mut vec![0; n]) == Ok(None) {
+            return yard;
+        }
+    }
+    unreachable!()
+}
+
 /// A chain: from each own position the yard goes one on, the last is unsafe, so that every round strikes one position more.
 fn chain(links: usize) -> Yard {
     let own = |k: usize| (2 * k) as u8;
@@ -122,15 +136,14 @@ fn main() {
     println!("| yard | pairs | rounds | proved | by hand | proved / by hand | naive | naive / proved |");
     println!("|---|---|---|---|---|---|---|---|");
     let mut random = Random::new(4);
-    for (name, actions, delay, own, environment, moves, unsafe_positions) in [
-        ("random, 8 actions, lag 4", 8, 4, 128, 128, 16, 0),
-        ("random, 8 actions, lag 4, some unsafe", 8, 4, 128, 128, 16, 4),
-        ("random, 8 actions, lag 5", 8, 5, 128, 128, 4, 0),
-        ("random, 8 actions, lag 6", 8, 6, 16, 16, 4, 2),
-        ("random, 4 actions, lag 6", 4, 6, 128, 128, 8, 0),
-    ] {
-        let shape = Shape { own, environment, actions, permitted: 90, moves, unsafe_positions };
-        measure(name, &random_yard(&mut random, &shape).at(delay));
+    for (actions, delay, own, environment, moves, unsafe_positions) in
+        [(8, 4, 128, 128, 16, 0), (8, 4, 128, 128, 2, 4), (8, 5, 128, 128, 2, 0), (8, 6, 16, 16, 2, 0), (4, 6, 128, 128, 2, 0)]
+    {
+        let shape = Shape { own, environment, actions, permitted: 98, moves, unsafe_positions };
+        let name = format!("random, {actions} actions, lag {delay}, {moves} moves at most");
+        let lost = random_yard(&mut random, &shape).at(delay);
+        measure(&name, &lost);
+        measure(&format!("{name}, winning"), &winning_yard(&mut random, &shape, delay));
     }
     measure("chain of 127 links, lag 0", &chain(127));
     println!();
