@@ -135,14 +135,22 @@ fn measure_cabin() {
 fn main() {
     println!("| yard | pairs | rounds | proved | by hand | proved / by hand | naive | naive / proved |");
     println!("|---|---|---|---|---|---|---|---|");
+    // sparser yards, most of which lose at a small lag, so that reading the sheet is most of the work
     let mut random = Random::new(4);
+    for (actions, delay, own, environment, moves, unsafe_positions) in
+        [(8, 4, 128, 128, 16, 0), (8, 4, 128, 128, 16, 4), (8, 5, 128, 128, 4, 0), (8, 6, 16, 16, 4, 2), (4, 6, 128, 128, 8, 0)]
+    {
+        let shape = Shape { own, environment, actions, permitted: 90, moves, unsafe_positions };
+        let name = format!("sparse, {actions} actions, lag {delay}, {moves} moves at most, {unsafe_positions} % unsafe");
+        measure(&name, &random_yard(&mut random, &shape).at(delay));
+    }
+    // denser yards, and ones that win, so that the rounds go through all pairs
     for (actions, delay, own, environment, moves, unsafe_positions) in
         [(8, 4, 128, 128, 16, 0), (8, 4, 128, 128, 2, 4), (8, 5, 128, 128, 2, 0), (8, 6, 16, 16, 2, 0), (4, 6, 128, 128, 2, 0)]
     {
         let shape = Shape { own, environment, actions, permitted: 98, moves, unsafe_positions };
-        let name = format!("random, {actions} actions, lag {delay}, {moves} moves at most");
-        let lost = random_yard(&mut random, &shape).at(delay);
-        measure(&name, &lost);
+        let name = format!("dense, {actions} actions, lag {delay}, {moves} moves at most, {unsafe_positions} % unsafe");
+        measure(&name, &random_yard(&mut random, &shape).at(delay));
         measure(&format!("{name}, winning"), &winning_yard(&mut random, &shape, delay));
     }
     measure("chain of 127 links, lag 0", &chain(127));
