@@ -49,17 +49,33 @@ impl Cabin {
         Cabin { turn: 0, last: [0; 3], window: [None; 7] }
     }
 
+    /// Document 01's refusal 20: entries outside the window don't matter.
+    fn valid(&self, table: &Table) -> bool {
+        let held = (table.delay / 2).min(self.turn);
+        let window = table.delay.min(2 * self.turn) + 1;
+        self.turn <= 1_000_000
+            && self.last[..held].iter().all(|&action| action < table.actions)
+            && self.window[..window].iter().flatten().all(|&position| position <= table.highest)
+    }
+
     pub fn observe(&mut self, sheet: &[u8], index: usize, position: u8) -> bool {
         let Some(table) = read(sheet) else { return false };
-        if position > table.highest || index > 2 * self.turn || index + table.delay < 2 * self.turn {
+        if !self.valid(&table) || position > table.highest || index > 2 * self.turn || index + table.delay < 2 * self.turn {
             return false;
         }
-        self.window[2 * self.turn - index] = Some(position);
+        let slot = &mut self.window[2 * self.turn - index];
+        if slot.is_some_and(|known| known != position) {
+            return false;
+        }
+        *slot = Some(position);
         true
     }
 
     pub fn act(&mut self, sheet: &[u8]) -> Option<u8> {
         let table = read(sheet)?;
+        if !self.valid(&table) || self.turn == 1_000_000 {
+            return None;
+        }
         let a = table.actions as usize;
         let command = if 2 * self.turn < table.delay {
             let length = (table.delay + 1) / 2;

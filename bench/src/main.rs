@@ -9,16 +9,24 @@ use std::time::{Duration, Instant};
 mod cabin;
 mod hand;
 
-/// The least of several times of one run, the buffers cleared before each.
-fn time(runs: usize, mut run: impl FnMut()) -> Duration {
-    (0..runs)
-        .map(|_| {
-            let start = Instant::now();
-            run();
-            start.elapsed()
-        })
-        .min()
-        .unwrap()
+/// The least times of two runs, taken in turn so that whatever else the machine does meets both alike: at least 30 runs of each, and
+/// more until half a second is spent.
+fn compare(mut one: impl FnMut(), mut other: impl FnMut()) -> (Duration, Duration) {
+    let begun = Instant::now();
+    let mut least = (Duration::MAX, Duration::MAX);
+    let mut runs = 0;
+    while runs < 30 || begun.elapsed() < Duration::from_millis(500) {
+        least.0 = least.0.min(time(&mut one));
+        least.1 = least.1.min(time(&mut other));
+        runs += 1;
+    }
+    least
+}
+
+fn time(run: &mut impl FnMut()) -> Duration {
+    let start = Instant::now();
+    run();
+    start.elapsed()
 }
 
 fn measure(name: &str, yard: &Yard) {
@@ -32,18 +40,16 @@ fn measure(name: &str, yard: &Yard) {
     assert_eq!((&masks, &ranks), (&hand_masks, &hand_ranks));
     let rounds = *ranks.iter().max().unwrap();
 
-    let by_proof = time(20, || {
-        masks.fill(0);
-        ranks.fill(0);
-        proved::solve(&sheet, &mut masks, &mut ranks).unwrap();
-    });
-    let by_hand = time(20, || {
-        masks.fill(0);
-        ranks.fill(0);
-        hand::Hand::new(&sheet).solve(&mut masks, &mut ranks);
-    });
+    let (by_proof, by_hand) = compare(
+        || {
+            proved::solve(&sheet, &mut masks, &mut ranks).unwrap();
+        },
+        || {
+            hand::Hand::new(&sheet).solve(&mut hand_masks, &mut hand_ranks);
+        },
+    );
     let mut verdict = None;
-    let naively = time(1, || {
+    let naively = time(&mut || {
         let read = naive::read(&sheet).unwrap();
         verdict = Some(Game::of(&sheet, &read).solve(read.delay, Rule::Document));
     });
@@ -102,25 +108,27 @@ fn measure_cabin() {
     let (sheet, losing) = proved::make(&yard.sheet(), &mut vec![0; n], &mut vec![0; n], 50_000).unwrap();
     assert_eq!(losing, None);
     let position = |index: usize| (index % 256) as u8;
-    let turns = 20_000;
-    let by_proof = time(3, || {
-        let mut state = proved::open(&sheet).unwrap();
-        for i in 0..turns {
-            if 2 * i >= 4 {
-                proved::observe(&sheet, &mut state, 2 * i - 4, position(2 * i - 4)).unwrap();
+    let turns = 1_000;
+    let (by_proof, by_hand) = compare(
+        || {
+            let mut state = proved::open(&sheet).unwrap();
+            for i in 0..turns {
+                if 2 * i >= 4 {
+                    proved::observe(&sheet, &mut state, 2 * i - 4, position(2 * i - 4)).unwrap();
+                }
+                assert_eq!(proved::act(&sheet, &mut state), Ok(0));
             }
-            assert_eq!(proved::act(&sheet, &mut state), Ok(0));
-        }
-    });
-    let by_hand = time(3, || {
-        let mut cabin = cabin::Cabin::open();
-        for i in 0..turns {
-            if 2 * i >= 4 {
-                assert!(cabin.observe(&sheet, 2 * i - 4, position(2 * i - 4)));
+        },
+        || {
+            let mut cabin = cabin::Cabin::open();
+            for i in 0..turns {
+                if 2 * i >= 4 {
+                    assert!(cabin.observe(&sheet, 2 * i - 4, position(2 * i - 4)));
+                }
+                assert_eq!(cabin.act(&sheet), Some(0));
             }
-            assert_eq!(cabin.act(&sheet), Some(0));
-        }
-    });
+        },
+    );
     let rate = |time: Duration| turns as f64 / time.as_secs_f64();
     println!("| cabin | turns a second, proved | by hand | proved / by hand, time |");
     println!("|---|---|---|---|");

@@ -5,14 +5,15 @@ use mathlib.Core.Bool.{Bool, true, false, not}
 use mathlib.Core.List.{List}
 use native.Mathlib.Omega.{arith}
 use native.Mathlib.Nat.{mul-le-mul-left, mul-lt-mul-of-pos-left}
+use native.Mathlib.Numerals.{add-one}
 use lib.Dec.{ltb}
-use lib.ListN.{length, getD}
+use lib.ListN.{length, getD, set, replicate}
 use borrow.Author.Needs.{needs}
 use borrow.Author.Tests.{le-leb, lt-leb, lt-ltb, le-ltb, eq-eqb, ne-eqb}
-use Rattle.theory.specs.Fold.{allBelow, anyBelow}
-use Rattle.theory.proofs.Fold.{both-true, both-false, either-left, all-none, all-done, any-none, any-holds, any-again, any-done, both-none, both-second, either-second, failed, passed, all-next, all-stopped}
+use Rattle.theory.specs.Fold.{either, allBelow, anyBelow, tabulate}
+use Rattle.theory.proofs.Fold.{both-true, both-false, either-left, either-right, either-first, all-none, all-done, any-suc, both-none, both-second, either-second, failed, passed, all-next, all-stopped, getD-tabulate, tabulate-set}
 use Rattle.sheet.specs.Kinds.{controllerAt, environmentAt}
-use Rattle.sheet.specs.Checks.{headerOk, keyAt, risesAt, targetOk, targetsOk, moveOk, movesOk, beginsAt, hasLine, leavesAt, allLeave}
+use Rattle.sheet.specs.Checks.{headerOk, keyAt, risesAt, targetOk, targetsOk, moveOk, movesOk, beginsAt, hasLine, leavesAt, leavesBy, allLeave}
 
 -- check 3: the passed tests, then the failed one
 
@@ -167,37 +168,59 @@ pub ruleset moves = (needs, all-none, moves-over, moves-many, moves-bad, moves-a
 pub line-within : (w k n : ℕ) → 1 ≤ w → k < n → w * k < w * n
 line-within w k n h l = mul-lt-mul-of-pos-left l h
 
-module _ (w : ℕ) (b : List ℕ) (n q : ℕ) where
-  this : (k v : ℕ) → v ≡ getD b (w * k) 0 → v ≡ q → beginsAt w b q k ≡ true
-  unfolding beginsAt
-  this k v e f = eq-eqb _ _ (sym e ∙ f)
+-- one pass over the lines of w bytes: l says which positions the first k lines begin with
 
-  pub line-found : (k v : ℕ) → k < n → v ≡ getD b (w * k) 0 → v ≡ q → true ≡ hasLine w b n q
+module _ (w : ℕ) (b : List ℕ) where
+  pub begun-none : replicate 256 false ≡ tabulate (hasLine w b 0) 0 256
+  unfolding hasLine anyBelow tabulate
+  begun-none = refl
+
+  next : (k q : ℕ) → hasLine w b (k + 1) q ≡ either (hasLine w b k q) (beginsAt w b q k)
   unfolding hasLine
-  line-found k v h e f = sym (any-holds (beginsAt w b q) k n h (this k v e f))
+  next k q = rw (add-one k) (any-suc (beginsAt w b q) k)
 
-  other : (k v : ℕ) → v ≡ getD b (w * k) 0 → (v ≡ q → ⊥) → beginsAt w b q k ≡ false
+  this : (k v : ℕ) → v ≡ getD b (w * k) 0 → hasLine w b (k + 1) v ≡ true
   unfolding beginsAt
-  other k v e f = ne-eqb _ _ (λ x. f (e ∙ x))
+  this k v e = next k v ∙ either-right _ _ (eq-eqb _ _ (sym e))
 
-  pub lines-again : (k v : ℕ) → anyBelow (beginsAt w b q) k ≡ false → v ≡ getD b (w * k) 0 → (v ≡ q → ⊥)
-      → anyBelow (beginsAt w b q) (k + 1) ≡ false
-  lines-again k v a e f = any-again (beginsAt w b q) k a refl (other k v e f)
+  other : (k v q : ℕ) → v ≡ getD b (w * k) 0 → (q ≡ v → ⊥) → hasLine w b (k + 1) q ≡ hasLine w b k q
+  unfolding beginsAt
+  other k v q e n = next k q ∙ either-first _ _ (ne-eqb _ _ (λ x. n (sym (e ∙ x))))
 
-  pub line-missing : (k : ℕ) → k ≤ n → n ≤ k → anyBelow (beginsAt w b q) k ≡ false → false ≡ hasLine w b n q
-  unfolding hasLine
-  line-missing k l g a = sym (any-done (beginsAt w b q) l g a)
+  pub begun-more : (k v : ℕ) {l : List Bool} → l ≡ tabulate (hasLine w b k) 0 256 → v ≡ getD b (w * k) 0 → getD b (w * k) 0 < 256
+      → set l v true ≡ tabulate (hasLine w b (k + 1)) 0 256
+  begun-more k v {l} so-far e h =
+      rw so-far
+      (tabulate-set (hasLine w b k) (hasLine w b (k + 1)) 256 v true (omega arith) (this k v e) (λ q. other k v q e))
 
-pub ruleset some-line = (needs, any-none, line-found, lines-again, line-missing)
+  pub begun-done : (k n : ℕ) {l : List Bool} → k ≤ n → n ≤ k → l ≡ tabulate (hasLine w b k) 0 256 → l ≡ tabulate (hasLine w b n) 0 256
+  begun-done k n {l} g h e = let done : k ≡ n = omega arith in rw done at e
+
+pub ruleset beginning = (needs, begun-none, begun-more, begun-done)
+
+-- position q, by the passes over both bodies
+
+module _ (p : List ℕ) (t m : List Bool) (q : ℕ) where
+  pub leaves-own : (x r : Bool) → x ≡ controllerAt p q → x ≡ true → r ≡ getD t q false → r ≡ leavesBy p t m q
+  unfolding leavesBy
+  leaves-own x r e f g = rw (sym e ∙ f) g
+
+  pub leaves-other : (x r : Bool) → x ≡ controllerAt p q → x ≡ false → r ≡ getD m q false → r ≡ leavesBy p t m q
+  unfolding leavesBy
+  leaves-other x r e f g = rw (sym e ∙ f) g
+
+pub ruleset a-leaving = (needs, leaves-own, leaves-other)
 
 module _ (p c u : List ℕ) where
-  pub leaves-own : (q : ℕ) (x r : Bool) → x ≡ controllerAt p q → x ≡ true → r ≡ hasLine 3 c (length c / 3) q → r ≡ leavesAt p c u q
-  unfolding leavesAt
-  leaves-own q x r e f g = rw (sym e ∙ f) g
-
-  pub leaves-other : (q : ℕ) (x r : Bool) → x ≡ controllerAt p q → x ≡ false → r ≡ hasLine 2 u (length u / 2) q → r ≡ leavesAt p c u q
-  unfolding leavesAt
-  leaves-other q x r e f g = rw (sym e ∙ f) g
+  pub leaves-is : (q : ℕ) {r : Bool} {t m : List Bool} → q < length p → length p ≤ 256
+      → t ≡ tabulate (hasLine 3 c (length c / 3)) 0 256 → m ≡ tabulate (hasLine 2 u (length u / 2)) 0 256
+      → r ≡ leavesBy p t m q → r ≡ leavesAt p c u q
+  unfolding leavesAt leavesBy
+  leaves-is q {r} {t} {m} h l e f g =
+      let n : q < 256 = omega arith in
+      let a : getD t q false ≡ hasLine 3 c (length c / 3) q = ap (λ (x : List Bool). getD x q false) e ∙ getD-tabulate _ 256 q false n in
+      let b : getD m q false ≡ hasLine 2 u (length u / 2) q = ap (λ (x : List Bool). getD x q false) f ∙ getD-tabulate _ 256 q false n in
+      rw (a, b) at g
 
   pub stuck-at : (q : ℕ) (r : Bool) → q < length p → r ≡ leavesAt p c u q → not r ≡ true → false ≡ allLeave p c u
   unfolding allLeave
@@ -211,4 +234,4 @@ module _ (p c u : List ℕ) where
   unfolding allLeave
   leave-all q l g t = sym (all-done (leavesAt p c u) l g t)
 
-pub ruleset leaving = (needs, all-none, leaves-own, leaves-other, stuck-at, leave-again, leave-all)
+pub ruleset leaving = (needs, all-none, leaves-is, stuck-at, leave-again, leave-all)

@@ -2,22 +2,17 @@
 use Prim.Native.Nat.{ℕ, suc, _+_, _*_, _/_, _≤_, _<_}
 use mathlib.Core.Path.{_≡_, refl, sym, _∙_, ap}
 use mathlib.Core.Bool.{true, false, cond}
-use mathlib.Core.Logic.{_⊎_, inl, inr, ⊎-elim}
+use mathlib.Core.Logic.{⊎-elim}
 use mathlib.Core.List.{List, []}
 use native.Mathlib.Omega.{arith}
 use native.Mathlib.Numerals.{add-one}
-use lib.Dec.{eqb}
 use lib.ListN.{length, getD, set, replicate, length-set, length-replicate, getD-replicate}
 use lib.Seq.{getD-set-same, getD-set-other, ext-getD}
-use borrow.Author.Tests.{eq-eqb, ne-eqb, eqb-true, eqb-false}
+use borrow.Author.Tests.{eq-eqb, ne-eqb}
 use Rattle.theory.specs.Fold.{tabulate}
 use Rattle.theory.specs.Game.{to}
-use Rattle.theory.proofs.Fold.{bool, both-true, both-false, length-tabulate, getD-tabulate, tabulate-same, both-none}
+use Rattle.theory.proofs.Fold.{same?, both-true, both-false, length-tabulate, getD-tabulate, tabulate-same, both-none}
 use Rattle.sheet.specs.Meant.{isLine, targetIn, markOf, rowOf, gridAfter, gridOf}
-
--- two numbers are the same or not
-same? : (a b : ℕ) → (a ≡ b) ⊎ (a ≡ b → ⊥)
-same? a b = ⊎-elim (λ t. inl (eqb-true a b t)) (λ f. inr (eqb-false a b f)) (bool (eqb a b))
 
 module _ (c : List ℕ) (n : ℕ) where
   length-row : (q : ℕ) → length (rowOf c n q) ≡ 8

@@ -1,5 +1,6 @@
 -- Sheets with the answers that document 01 gives them, and what the guess yard means: the table that proofs/Cases.antt computes.
--- Not here, for their size: sheets of 4,096 and 4,097 moves. Assumes nothing.
+-- Not here, for their size, but run by tests/solving.rs (limits_of_size): sheets of 4,096 and 4,097 moves, and of 256 positions with
+-- A 8, which pass 7 at lag 4 and don't at lag 6. Assumes nothing.
 use Prim.Native.Nat.{ℕ, zero, suc, _+_, _/_, _%_}
 use mathlib.Core.List.{List, [], _∷_, _++_}
 use lib.ListN.{length, take, drop, set, replicate}
@@ -94,9 +95,10 @@ cases =
     ∷ wrong 1 (set guess 7 1)
     ∷ wrong 1 (take 44 guess)
     ∷ wrong 1 (guess ++ (0 ∷ []))
-    -- 2: no position, 257 of them, a byte over 3
+    -- 2: no position, 257 of them (256 pass, and most have no move), a byte over 3
     ∷ wrong 2 (guessP [])
     ∷ wrong 2 (guessP (replicate 257 0))
+    ∷ wrong 6 (guessP (0 ∷ 0 ∷ 2 ∷ 3 ∷ replicate 252 0))
     ∷ wrong 2 (guessP (0 ∷ 0 ∷ 2 ∷ 4 ∷ []))
     -- 3: four bytes, A 0 and 9, lag 7, start absent and the yard's
     ∷ wrong 3 (guessS (0 ∷ 2 ∷ 1 ∷ 0 ∷ []))
@@ -123,11 +125,9 @@ cases =
     -- 6: an own position and one of the yard without a move
     ∷ wrong 6 (guessC (0 ∷ 0 ∷ 2 ∷ []))
     ∷ wrong 6 (guessU (2 ∷ 0 ∷ []))
-    -- 7: A 8, lag 6: 32 positions pass and 33 don't; 256 positions pass at lag 4 and don't at lag 6
+    -- 7: A 8, lag 6: 32 positions pass and 33 don't
     ∷ right (star 31 6) (layout 0 8 6 32 93 2)
     ∷ wrong 7 (star 32 6)
-    ∷ right (star 255 4) (layout 0 8 4 256 765 2)
-    ∷ wrong 7 (star 255 6)
     -- two reasons: the first counts. 1 and 2, 2 and 3, 3 and 4, 4 and 5, 5 and 6, 6 and 7
     ∷ wrong 1 (guessP (0 ∷ 0 ∷ 2 ∷ 4 ∷ []) ++ (0 ∷ []))
     ∷ wrong 2 (sheetWith (0 ∷ 9 ∷ 1 ∷ []) (0 ∷ 0 ∷ 2 ∷ 4 ∷ []) [] [])

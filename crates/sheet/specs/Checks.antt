@@ -1,7 +1,7 @@
 -- What each of the checks 2 to 7 of a game sheet asks ("Reading a yard sheet"). h, p, c and u are the S, P, C and U bodies.
 -- Assumes nothing.
 use Prim.Native.Nat.{ℕ, _+_, _-_, _*_, _/_, _%_, _^_}
-use mathlib.Core.Bool.{Bool, cond}
+use mathlib.Core.Bool.{Bool, false, cond}
 use mathlib.Core.List.{List}
 use lib.Dec.{eqb, leb, ltb}
 use lib.ListN.{length, getD}
@@ -59,6 +59,10 @@ hasLine w b n q = anyBelow (beginsAt w b q) n
 -- a position's own kind of line leads on from it
 unfoldable pub leavesAt : List ℕ → List ℕ → List ℕ → ℕ → Bool
 leavesAt p c u q = cond (controllerAt p q) (hasLine 3 c (length c / 3) q) (hasLine 2 u (length u / 2) q)
+
+-- the same, as code has it: from the positions that the C lines and the U lines begin with
+unfoldable pub leavesBy : List ℕ → List Bool → List Bool → ℕ → Bool
+leavesBy p targets moves q = cond (controllerAt p q) (getD targets q false) (getD moves q false)
 
 -- 6: "a position without a move"
 unfoldable pub allLeave : List ℕ → List ℕ → List ℕ → Bool

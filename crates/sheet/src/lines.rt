@@ -6,7 +6,9 @@ use crate::limits::MOST_MOVES;
 ghost use mathlib.Core.Path.{_≡_};
 ghost use Prim.Native.Nat.{_+_, _*_, _≤_, _<_};
 ghost use lib.ListN.{length};
-ghost use Rattle.sheet.specs.Checks.{keyAt, risesAt, targetOk, targetsOk, moveOk, movesOk, hasLine, leavesAt, allLeave};
+ghost use Rattle.theory.specs.Fold.{tabulate};
+ghost use Rattle.sheet.specs.Limits.{mostPositions};
+ghost use Rattle.sheet.specs.Checks.{keyAt, risesAt, targetOk, targetsOk, moveOk, movesOk, hasLine, leavesBy, allLeave};
 
 // The first two bytes of a line as one number, by which lines are ordered.
 fn key(b: &[u8], i: usize) -> usize
@@ -102,40 +104,43 @@ pub(crate) fn moves_ok(p: &[u8], u: &[u8]) -> bool
     true
 }
 
-// Does one of the first n lines begin with q?
-fn has_line(width: usize, b: &[u8], n: usize, q: usize) -> bool
+// For each position that there can be: does one of the first n lines begin with it? One pass over the lines.
+fn begun(width: usize, b: &[u8], n: usize) -> [bool; 256]
     requires { ⌜ (1 ≤ width) × (width * n ≤ length (now b)) ⌝ }
-    ensures { λ r. ⌜ r ≡ hasLine width (now (b .entry)) n q ⌝ }
+    ensures { λ r. ⌜ r ≡ tabulate (hasLine width (now (b .entry)) n) 0 256 ⌝ }
 {
+    let mut begun = [false; 256];
     let mut k: usize = 0;
     while k < n {
         let from = wide(b[width * k]);
-        if from == q {
-            return true;
-        }
+        begun[from] = true;
         k += 1;
     }
-    false
+    begun
 }
 
-// Has position q a move of its own kind?
-fn leaves_at(p: &[u8], c: &[u8], u: &[u8], q: usize) -> bool
-    ensures { λ r. ⌜ r ≡ leavesAt (now (p .entry)) (now (c .entry)) (now (u .entry)) q ⌝ }
+// Has position q a move of its own kind, with where the C and U lines begin?
+fn leaves_at(p: &[u8], targets: &[bool; 256], moves: &[bool; 256], q: usize) -> bool
+    requires { ⌜ q < 256 ⌝ }
+    ensures { λ r. ⌜ r ≡ leavesBy (now (p .entry)) (now (targets .entry)) (now (moves .entry)) q ⌝ }
 {
     if controller_at(p, q) {
-        return has_line(3, c, c.len() / 3, q);
+        return targets[q];
     }
-    has_line(2, u, u.len() / 2, q)
+    moves[q]
 }
 
 // Check 6.
 pub(crate) fn all_leave(p: &[u8], c: &[u8], u: &[u8]) -> bool
+    requires { ⌜ length (now p) ≤ mostPositions ⌝ }
     ensures { λ r. ⌜ r ≡ allLeave (now (p .entry)) (now (c .entry)) (now (u .entry)) ⌝ }
 {
+    let targets = begun(3, c, c.len() / 3);
+    let moves = begun(2, u, u.len() / 2);
     let n = p.len();
     let mut q: usize = 0;
     while q < n {
-        if !leaves_at(p, c, u, q) {
+        if !leaves_at(p, &targets, &moves, q) {
             return false;
         }
         q += 1;

@@ -7,10 +7,10 @@ use mathlib.Core.List.{List, [], _∷_, map, List·Memᴰ, List·Memᴰ·head, L
 use native.Mathlib.Omega.{arith}
 use native.Mathlib.Nat.{eq-or-lt-of-le, le-of-suc-le-suc, le-refl}
 use native.Mathlib.Numerals.{add-one}
-use lib.Dec.{ltb}
-use lib.ListN.{length, getD, take, drop, length-drop, List·getD-eq-default}
-use lib.Seq.{ext-getD, take-all}
-use borrow.Author.Tests.{ltb-true, ltb-false, not-true, not-false}
+use lib.Dec.{eqb, ltb}
+use lib.ListN.{length, getD, set, take, drop, length-set, length-drop, List·getD-eq-default}
+use lib.Seq.{getD-set-same, getD-set-other, ext-getD, take-all}
+use borrow.Author.Tests.{eqb-true, eqb-false, ltb-true, ltb-false, not-true, not-false}
 use Rattle.theory.specs.Fold.{both, either, allBelow, anyBelow, firstNot, anyOf, tabulate}
 
 -- a test passes or fails
@@ -109,6 +109,9 @@ below-cases h = ⊎-elim (λ q. inr q) (λ l. inl l) (eq-or-lt-of-le (le-of-suc-
 
 pub below? : (m n : ℕ) → (m < n) ⊎ (n ≤ m)
 below? m n = ⊎-elim (λ e. inl (ltb-true m n e)) (λ e. inr (ltb-false m n e)) (bool (ltb m n))
+
+pub same? : (m n : ℕ) → (m ≡ n) ⊎ (m ≡ n → ⊥)
+same? m n = ⊎-elim (λ e. inl (eqb-true m n e)) (λ e. inr (eqb-false m n e)) (bool (eqb m n))
 
 pub all-at : (p : ℕ → Bool) (n : ℕ) → allBelow p n ≡ true → (i : ℕ) → i < n → p i ≡ true
 all-at p zero e i h = absurd (omega arith)
@@ -304,6 +307,22 @@ module _ {A : Type 0} where
       (λ k l.
       let m : k < n = rw (length-tabulate f 0 n) at l in
       getD-tabulate f n k a m ∙ h k m ∙ sym (getD-tabulate g n k a m))
+
+  -- one entry of a tabulated list is replaced
+  pub tabulate-set : (f g : ℕ → A) (n v : ℕ) (x : A) → v < n → g v ≡ x → ((k : ℕ) → (k ≡ v → ⊥) → g k ≡ f k)
+      → set (tabulate f 0 n) v x ≡ tabulate g 0 n
+  tabulate-set f g n v x h here other =
+      ext-getD x _ _ (length-set (tabulate f 0 n) v x ∙ length-tabulate f 0 n ∙ sym (length-tabulate g 0 n))
+      (λ k l.
+      let m : k < n = rw (length-set (tabulate f 0 n) v x, length-tabulate f 0 n) at l in
+      ⊎-elim
+      (λ (e : k ≡ v).
+      rw e (getD-set-same (tabulate f 0 n) v x x (rw (length-tabulate f 0 n) h) ∙ sym (getD-tabulate g n v x h ∙ here)))
+      (λ (e : k ≡ v → ⊥).
+      getD-set-other (tabulate f 0 n) v k x x e
+      ∙ getD-tabulate f n k x m
+      ∙ sym (getD-tabulate g n k x m ∙ other k e))
+      (same? k v))
 
   -- a range of a tabulated list that is over, and one that goes on
   pub tabulate-none : (f : ℕ → A) (i e : ℕ) → e ≤ i → tabulate f i (e - i) ≡ []

@@ -11,10 +11,16 @@ use Rattle.sheet.proofs.lines.all_leave.Statement.{statement}
 use Rattle.sheet.proofs.lines.all_leave.Tie as tie
 
 abbrev Inv-loop : tie.InvT-loop
-Inv-loop p c u n q₀ q = (q ≤ length p) × (allBelow (leavesAt p c u) q ≡ true)
+Inv-loop p c u targets moves n q₀ q = (q ≤ length p) × (allBelow (leavesAt p c u) q ≡ true)
 
 abbrev μ-loop : tie.MeasureT-loop
-μ-loop p c u n q₀ q = length p - q
+μ-loop p c u targets moves n q₀ q = length p - q
+
+begun-requires : tie.Need-begun-requires Inv-loop μ-loop
+begun-requires c κs = search leaving
+
+begun-requires-2 : tie.Need-begun-requires-2 Inv-loop μ-loop
+begun-requires-2 c κs = search leaving
 
 loop-holds : tie.Need-loop-holds Inv-loop μ-loop
 loop-holds c = search leaving
@@ -43,6 +49,8 @@ all-leave-spec =
     (tie.spec
     Inv-loop
     μ-loop
+    begun-requires
+    begun-requires-2
     loop-holds
     leaves-at-requires
     returns
