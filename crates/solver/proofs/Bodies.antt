@@ -17,7 +17,8 @@ use Rattle.sheet.specs.Meant.{movesIn, movesOf, gameOf, markOf, rowOf, gridOf, 
 use Rattle.sheet.proofs.GridLaws.{row-at}
 use Rattle.sheet.proofs.Accepted.{Read, ranges}
 use Rattle.sheet.proofs.Legality.{legal, target-read, moves-ordered}
-use Rattle.solver.specs.View.{cellAt, toAt, fromBelow, firstLine, firstsOf, tosBetween, viewOf}
+use Rattle.walk.specs.View.{cellAt, toAt, tosBetween, viewOf}
+use Rattle.solver.specs.Levels.{fromBelow, firstLine, firstsOf}
 use Rattle.solver.specs.Solving.{bodiesGame}
 use Rattle.solver.proofs.MoveLaws.{first-skips}
 

@@ -25,8 +25,10 @@ use Rattle.sheet.specs.declared.reading.Reading.{Reading}
 use Rattle.sheet.specs.declared.reading.Reading.the-variants.{Accepted, Refused}
 use Rattle.sheet.proofs.Accepted.{read-is, ranges, carries}
 use Rattle.sheet.proofs.Legality.{controller-inside, legal-game}
-use Rattle.solver.specs.declared.level.Level.{Level}
-use Rattle.solver.specs.View.{firstsOf, viewOf, Sized, levelAt}
+use Rattle.walk.specs.declared.level.Level.{Level}
+use Rattle.walk.specs.View.{viewOf}
+use Rattle.walk.specs.Nodes.{Sized}
+use Rattle.solver.specs.Levels.{firstsOf, levelAt}
 use Rattle.solver.specs.Strikes.{goodIn, firstWords}
 use Rattle.solver.specs.Solving.{over, bodiesGame}
 use Rattle.solver.specs.Flags.{flagWith, flagIn, countIn, flagsCount, flagsAfter}

@@ -18,11 +18,13 @@ use Rattle.theory.specs.Delay.{odd, words, onRight, arena, keptAt, goodBy, good
 use Rattle.theory.proofs.Fold.{both-true, any-none, any-holds, any-again, any-done, both-none, both-second}
 use Rattle.sheet.specs.Kinds.{safeAt}
 use Rattle.sheet.specs.Meant.{unmark}
-use Rattle.solver.specs.declared.level.Level.{Level}
-use Rattle.solver.specs.View.{cellAt, viewOf, levelArena, arenaOf, Sized, levelAt}
+use Rattle.walk.specs.declared.level.Level.{Level}
+use Rattle.walk.specs.View.{cellAt, viewOf, levelArena, arenaOf}
+use Rattle.walk.specs.Nodes.{Sized}
+use Rattle.solver.specs.Levels.{levelAt}
 use Rattle.solver.specs.Strikes.{rightAt, keptIn, goodOn, goodIn, wordsOn, firstWords}
-use Rattle.solver.proofs.Products.{product-small, product-fits, sum-fits}
-use Rattle.solver.proofs.WalkLaws.{unmark-absent, unmark-to}
+use Rattle.walk.proofs.Products.{product-small, product-fits, sum-fits}
+use Rattle.walk.proofs.WalkLaws.{unmark-absent, unmark-to}
 use Rattle.solver.proofs.LevelLaws.{arena-is, words-is}
 
 -- kept nodes: r is the answer on the side

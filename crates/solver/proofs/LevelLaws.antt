@@ -17,7 +17,9 @@ use Rattle.theory.specs.Delay.{odd, words, initialWords, step, arena}
 use Rattle.theory.proofs.Fold.{bool}
 use Rattle.theory.proofs.Pending.{odd-delay, even-delay}
 use Rattle.sheet.specs.Checks.{nodesOf, powerTo}
-use Rattle.solver.specs.View.{viewOf, levelArena, arenaOf, Sized, Room, levelAt}
+use Rattle.walk.specs.View.{viewOf, levelArena, arenaOf}
+use Rattle.walk.specs.Nodes.{Sized}
+use Rattle.solver.specs.Levels.{Room, levelAt}
 use Rattle.solver.specs.Strikes.{wordsOn, firstWords}
 
 module _ {positions actions delay : ℕ} (room : Room positions actions delay) where

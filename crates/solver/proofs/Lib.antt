@@ -1,8 +1,6 @@
 -- Laws of the definitions of specs/, on which the proofs of the functions rest.
-pub mod Products
 pub mod Over
 pub mod Filling
-pub mod WalkLaws
 pub mod LevelLaws
 pub mod GoodLaws
 pub mod MaskLaws

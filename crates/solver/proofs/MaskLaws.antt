@@ -17,10 +17,11 @@ use Rattle.theory.specs.Fold.{tabulate}
 use Rattle.theory.specs.Rounds.{Arena, spoiltBy, fell, maskBelow, maskAt, masksBy}
 use Rattle.theory.proofs.Fold.{below?, both-none, both-second}
 use Rattle.theory.proofs.Masks.{mask-lt}
-use Rattle.solver.specs.declared.level.Level.{Level}
-use Rattle.solver.specs.View.{viewOf, levelArena, arenaOf, Sized}
-use Rattle.solver.specs.Walks.{fallenBy, allowedIn}
-use Rattle.solver.specs.Strikes.{keptIn, AtMost}
+use Rattle.walk.specs.declared.level.Level.{Level}
+use Rattle.walk.specs.View.{viewOf, levelArena, arenaOf}
+use Rattle.walk.specs.Nodes.{Sized}
+use Rattle.walk.specs.Walks.{fallenBy}
+use Rattle.solver.specs.Strikes.{keptIn, allowedIn, AtMost}
 use Rattle.solver.proofs.Filling.{filled, filled-none, filled-more, filled-done}
 use Rattle.solver.proofs.GoodLaws.{kept-is}
 

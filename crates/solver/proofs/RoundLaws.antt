@@ -18,9 +18,10 @@ use Rattle.theory.specs.Delay.{onRight}
 use Rattle.theory.proofs.Fold.{bool, below?, both-true, both-left, both-right, both-false, any-none, any-suc, either-right, tabulate-same, length-tabulate, getD-tabulate, any-below-none, any-some, not-both, count, count-le, count-less, both-none, both-second, either-first, not-not}
 use Rattle.theory.proofs.Rounds.{rank-zero, rank-le, length-after, stays-fallen, fell-true, fell-false, stood-rank, in-fallen, in-struck, in-stands, after-suc, final-is}
 use Rattle.sheet.specs.Kinds.{controllerAt, safeAt}
-use Rattle.solver.specs.declared.level.Level.{Level}
-use Rattle.solver.specs.View.{viewOf, levelArena, arenaOf}
-use Rattle.solver.specs.Walks.{fallenBy}
+use Rattle.walk.specs.declared.level.Level.{Level}
+use Rattle.walk.specs.View.{viewOf, levelArena, arenaOf}
+use Rattle.walk.specs.Walks.{fallenBy}
+use Rattle.walk.proofs.NodeLaws.{at-node}
 use Rattle.solver.specs.Strikes.{rightAt, firstRank, struckBy, strikes, nextRanks, AtMost}
 use Rattle.solver.proofs.Filling.{filled, filled-none, filled-more, filled-keep, filled-done, filled-below, filled-above}
 
@@ -96,7 +97,7 @@ module _ (p : List ℕ) (g : List (List ℕ)) (u f : List ℕ) (l : Level) where
           ≡ allBelow (spoiltBy (arenaOf p g u f l) (fallenBy n ranks) k) (arenaOf p g u f l .actions)
       actions-are = ap (allBelow (spoiltBy (arenaOf p g u f l) (fallenBy n ranks) k)) (sym (actions-of p g u f l))
 
-pub ruleset striking = (needs, struck-fallen, struck-wrong, struck-doomed)
+pub ruleset striking = (needs, at-node, struck-fallen, struck-wrong, struck-doomed)
 
 -- one round: n of them are over, and the first k nodes of the next are done
 

@@ -17,8 +17,10 @@ use Rattle.theory.proofs.Fold.{below?}
 use Rattle.theory.proofs.Rounds.{final-length}
 use Rattle.theory.proofs.Waiting.{answer-wins, answer-found}
 use Rattle.sheet.specs.Checks.{nodesOf}
-use Rattle.solver.specs.declared.level.Level.{Level}
-use Rattle.solver.specs.View.{viewOf, arenaOf, Sized, Room, levelAt}
+use Rattle.walk.specs.declared.level.Level.{Level}
+use Rattle.walk.specs.View.{viewOf, arenaOf}
+use Rattle.walk.specs.Nodes.{Sized}
+use Rattle.solver.specs.Levels.{Room, levelAt}
 use Rattle.solver.specs.Strikes.{goodIn, firstWords, AtMost}
 use Rattle.solver.specs.Solving.{solvedDelay, over, verdictBy, Stopped}
 use Rattle.solver.proofs.LevelLaws.{nodes-less, room-less, level-sized, arena-is, nodes-is}

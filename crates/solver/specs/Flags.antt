@@ -11,7 +11,7 @@ use Rattle.theory.specs.Delay.{initialWords, goodWith}
 use Rattle.sheet.specs.Reading.{readAnswer, delayOf}
 use Rattle.sheet.specs.Meant.{gameOf}
 use Rattle.sheet.specs.declared.reading.Layout.{Layout}
-use Rattle.solver.specs.declared.level.Level.{Level}
+use Rattle.walk.specs.declared.level.Level.{Level}
 use Rattle.solver.specs.Strikes.{goodIn}
 use Rattle.solver.specs.Solving.{over}
 

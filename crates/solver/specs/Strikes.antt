@@ -5,12 +5,12 @@ use mathlib.Core.List.{List}
 use lib.Dec.{eqb}
 use lib.ListN.{getD}
 use Rattle.theory.specs.Fold.{both, allBelow, tabulate}
-use Rattle.theory.specs.Rounds.{Arena, spoiltBy, fell, falls, rankIn}
+use Rattle.theory.specs.Rounds.{Arena, spoiltBy, fell, falls, rankIn, maskBelow}
 use Rattle.theory.specs.Delay.{keptAt}
 use Rattle.sheet.specs.Kinds.{controllerAt, safeAt}
-use Rattle.solver.specs.declared.level.Level.{Level}
-use Rattle.solver.specs.View.{cellAt}
-use Rattle.solver.specs.Walks.{fallenBy}
+use Rattle.walk.specs.declared.level.Level.{Level}
+use Rattle.walk.specs.View.{cellAt}
+use Rattle.walk.specs.Walks.{fallenBy}
 
 -- "For even d the position is own, for odd d yard"
 unfoldable pub rightAt : Bool → List ℕ → ℕ → Bool
@@ -39,6 +39,10 @@ AtMost n ranks = (k : ℕ) → getD ranks k 0 ≤ n
 
 unfoldable pub keptIn : List ℕ → Level → List ℕ → ℕ → Bool
 keptIn p l ranks k = both (rightAt (l .odd) p (k / l .power)) (not (fell ranks k))
+
+-- the mask of a kept node, what has fallen being the nodes of rank 1 to n
+unfoldable pub allowedIn : Arena → ℕ → List ℕ → ℕ → ℕ
+allowedIn E n ranks k = maskBelow (λ c. not (spoiltBy E (fallenBy n ranks) k c)) (E .actions)
 
 -- the good first words, by parity
 unfoldable pub goodOn : Bool → List ℕ → List (List ℕ) → Level → List ℕ → ℕ → Bool

@@ -7,7 +7,8 @@ ghost use Prim.Native.Nat.{_≤_};
 ghost use lib.ListN.{length};
 ghost use Rattle.theory.specs.Game.{Legal};
 ghost use Rattle.sheet.specs.Checks.{nodesOf};
-ghost use Rattle.solver.specs.View.{Room, viewOf};
+ghost use Rattle.walk.specs.View.{viewOf};
+ghost use Rattle.solver.specs.Levels.{Room};
 ghost use Rattle.solver.specs.Solving.{Stopped};
 
 // Where the search stopped: whether the asked delay wins, the delay whose ranks stand, and the number of its rounds.

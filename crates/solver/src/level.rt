@@ -1,17 +1,9 @@
-// The numbers of one delay, which every function over its nodes takes.
+// The numbers of one delay.
 use sheet::form::wide;
 use sheet::size::power;
+use walk::level::Level;
 ghost use mathlib.Core.Path.{_≡_};
-ghost use Rattle.solver.specs.View.{levelAt, Room};
-
-// power: the number of pending words. A node is a position times power, plus its pending word.
-pub struct Level {
-    pub start: usize,
-    pub actions: usize,
-    pub power: usize,
-    pub odd: bool,
-    pub nodes: usize,
-}
+ghost use Rattle.solver.specs.Levels.{levelAt, Room};
 
 pub(crate) fn level_at(positions: usize, start: u8, actions: u8, delay: u8) -> Level
     requires { ⌜ Room positions actions delay ⌝ }

@@ -1,14 +1,14 @@
 // The masks: what each node allows once the ranks stand.
-use crate::level::Level;
-use crate::walk::spoilt;
 use crate::words::kept;
+use walk::level::Level;
+use walk::walk::spoilt;
 ghost use mathlib.Core.Path.{_≡_};
 ghost use Prim.Native.Nat.{_<_};
 ghost use lib.ListN.{length};
 ghost use Rattle.theory.specs.Rounds.{maskAt, masksBy};
-ghost use Rattle.solver.specs.View.{Sized, arenaOf};
-ghost use Rattle.solver.specs.Strikes.{AtMost};
-ghost use Rattle.solver.specs.Walks.{allowedIn};
+ghost use Rattle.walk.specs.View.{arenaOf};
+ghost use Rattle.walk.specs.Nodes.{Sized};
+ghost use Rattle.solver.specs.Strikes.{AtMost, allowedIn};
 
 // The bits of the actions that are not spoilt at node k, which is kept.
 fn allowed(

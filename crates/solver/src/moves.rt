@@ -6,7 +6,7 @@ ghost use Prim.Native.Nat.{_/_, _≤_};
 ghost use lib.ListN.{length};
 ghost use Rattle.theory.specs.Fold.{allBelow};
 ghost use Rattle.sheet.specs.Limits.{mostMoves};
-ghost use Rattle.solver.specs.View.{fromBelow, firstLine, firstsOf};
+ghost use Rattle.solver.specs.Levels.{fromBelow, firstLine, firstsOf};
 
 // The first line, from a given one on, that is not of a position below q.
 fn skip_below(u: &[u8], from: usize, q: usize) -> usize

@@ -1,14 +1,15 @@
 // The rounds, in place in the lent rank buffer, which has one entry for each node.
-use crate::level::Level;
-use crate::walk::doomed;
 use sheet::kinds::controller_at;
 use sheet::kinds::safe_at;
+use walk::level::Level;
+use walk::walk::doomed;
 ghost use mathlib.Core.Path.{_≡_};
 ghost use Prim.Native.Nat.{_≤_, _<_};
 ghost use lib.ListN.{length};
 ghost use Rattle.theory.specs.Fold.{anyBelow, tabulate};
 ghost use Rattle.theory.specs.Rounds.{finalRanks};
-ghost use Rattle.solver.specs.View.{Sized, arenaOf};
+ghost use Rattle.walk.specs.View.{arenaOf};
+ghost use Rattle.walk.specs.Nodes.{Sized};
 ghost use Rattle.solver.specs.Strikes.{rightAt, firstRank, struckBy, strikes, nextRanks, AtMost};
 
 // Is this position of the side whose nodes can fall?

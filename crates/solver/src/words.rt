@@ -1,22 +1,21 @@
 // Good first words, once the ranks stand.
-use crate::level::Level;
 use crate::level::level_at;
 use crate::rounds::on_right;
-use crate::walk::target;
 use sheet::form::part;
 use sheet::grid::grid_of;
 use sheet::kinds::safe_at;
 use sheet::reading::Reading;
 use sheet::reading::read;
+use walk::level::Level;
+use walk::walk::ABSENT;
+use walk::walk::target;
 ghost use mathlib.Core.Path.{_≡_};
 ghost use Prim.Native.Nat.{_<_};
 ghost use lib.ListN.{length};
 ghost use Rattle.theory.specs.Fold.{anyBelow, tabulate};
-ghost use Rattle.solver.specs.View.{Sized};
+ghost use Rattle.walk.specs.Nodes.{Sized};
 ghost use Rattle.solver.specs.Strikes.{keptIn, goodIn, firstWords};
 ghost use Rattle.solver.specs.Flags.{flagIn, flagsCount, flagsAfter};
-
-const ABSENT: usize = 256;
 
 pub(crate) fn kept(p: &[u8], level: Level, ranks: &[u16], k: usize) -> bool
     requires { ⌜ Sized (length (now p)) level ⌝ }

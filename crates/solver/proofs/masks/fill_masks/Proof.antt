@@ -3,7 +3,7 @@ use Prim.Native.Nat.{_-_, _≤_}
 use mathlib.Core.Path.{_≡_}
 use lib.ListN.{length}
 use Rattle.theory.specs.Rounds.{maskAt}
-use Rattle.solver.specs.View.{arenaOf}
+use Rattle.walk.specs.View.{arenaOf}
 use Rattle.solver.proofs.Filling.{filled}
 use Rattle.solver.proofs.MaskLaws.{all-masks}
 use Rattle.solver.proofs.masks.fill_masks.Statement.{statement}

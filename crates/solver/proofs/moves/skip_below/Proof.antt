@@ -3,7 +3,7 @@ use mathlib.Core.Path.{_≡_}
 use mathlib.Core.Bool.{true}
 use lib.ListN.{length}
 use Rattle.theory.specs.Fold.{allBelow}
-use Rattle.solver.specs.View.{fromBelow}
+use Rattle.solver.specs.Levels.{fromBelow}
 use Rattle.solver.proofs.MoveLaws.{skipping}
 use Rattle.solver.proofs.moves.skip_below.Statement.{statement}
 use Rattle.solver.proofs.moves.skip_below.Tie as tie

@@ -5,7 +5,7 @@ use native.Mathlib.Omega.{arith}
 use lib.ListN.{length, length-set}
 use Rattle.theory.specs.Fold.{anyBelow}
 use Rattle.theory.specs.Rounds.{rankIn}
-use Rattle.solver.specs.View.{arenaOf}
+use Rattle.walk.specs.View.{arenaOf}
 use Rattle.solver.specs.Strikes.{strikes}
 use Rattle.solver.proofs.Filling.{filled}
 use Rattle.solver.proofs.RoundLaws.{round-struck, round-kept, any-struck, any-kept, rounding}

@@ -2,7 +2,7 @@ use Prim.Native.Nat.{_+_, _≤_}
 use mathlib.Core.Path.{_≡_}
 use lib.ListN.{length}
 use Rattle.theory.specs.Rounds.{ranksAfter}
-use Rattle.solver.specs.View.{arenaOf}
+use Rattle.walk.specs.View.{arenaOf}
 use Rattle.solver.proofs.RoundLaws.{standing, allRounds}
 use Rattle.solver.proofs.rounds.rounds.Statement.{statement}
 use Rattle.solver.proofs.rounds.rounds.Tie as tie

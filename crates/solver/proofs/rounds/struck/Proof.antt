@@ -4,7 +4,7 @@ use Rattle.solver.proofs.rounds.struck.Tie as tie
 use Rattle.solver.proofs.rounds.struck.Reads as reads
 use Rattle.solver.proofs.rounds.struck.Lts as lts
 use Rattle.solver.proofs.rounds.on_right.Reads as on-right-reads
-use Rattle.solver.proofs.walk.doomed.Reads as doomed-reads
+use Rattle.walk.proofs.walk.doomed.Reads as doomed-reads
 
 -- src/rounds.rt:64:16
 mul-rank : tie.Need-mul-rank

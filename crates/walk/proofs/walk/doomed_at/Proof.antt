@@ -3,15 +3,15 @@ use mathlib.Core.Path.{_≡_}
 use mathlib.Core.Bool.{true}
 use Rattle.theory.specs.Fold.{allBelow}
 use Rattle.theory.specs.Rounds.{spoiltBy}
-use Rattle.solver.specs.View.{arenaOf}
-use Rattle.solver.specs.Walks.{fallenBy}
-use Rattle.solver.proofs.WalkLaws.{spoiltFrom, walks}
-use Rattle.solver.proofs.walk.doomed.Statement.{statement}
-use Rattle.solver.proofs.walk.doomed.Tie as tie
-use Rattle.solver.proofs.walk.doomed.Reads as reads
-use Rattle.solver.proofs.walk.doomed.Lts as lts
-use Rattle.solver.proofs.walk.choose.Reads as choose-reads
-use Rattle.solver.proofs.walk.spoils.Reads as spoils-reads
+use Rattle.walk.specs.View.{arenaOf}
+use Rattle.walk.specs.Walks.{fallenBy}
+use Rattle.walk.proofs.WalkLaws.{spoiltFrom, walks}
+use Rattle.walk.proofs.walk.doomed_at.Statement.{statement}
+use Rattle.walk.proofs.walk.doomed_at.Tie as tie
+use Rattle.walk.proofs.walk.doomed_at.Reads as reads
+use Rattle.walk.proofs.walk.doomed_at.Lts as lts
+use Rattle.walk.proofs.walk.choose.Reads as choose-reads
+use Rattle.walk.proofs.walk.spoils.Reads as spoils-reads
 
 abbrev Inv-moves : tie.InvT-moves
 Inv-moves p grid u firsts level marks n k q w c x line₀ line = allBelow (spoiltBy (arenaOf p grid u firsts level) (fallenBy n marks) k) c ≡ spoiltFrom p grid u level (fallenBy n marks) x line
@@ -89,8 +89,8 @@ returns c = search walks
 returns-2 : tie.Need-returns-2 Inv-moves μ-moves Inv-actions μ-actions
 returns-2 c = search walks
 
-pub doomed-spec : {M : Type 1} → statement M
-doomed-spec =
+pub doomed-at-spec : {M : Type 1} → statement M
+doomed-at-spec =
     tie.close
     (tie.spec
     Inv-moves

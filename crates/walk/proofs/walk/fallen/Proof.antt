@@ -1,8 +1,8 @@
-use Rattle.solver.proofs.WalkLaws.{leaves}
-use Rattle.solver.proofs.walk.fallen.Statement.{statement}
-use Rattle.solver.proofs.walk.fallen.Tie as tie
-use Rattle.solver.proofs.walk.fallen.Reads as reads
-use Rattle.solver.proofs.walk.fallen.Lts as lts
+use Rattle.walk.proofs.WalkLaws.{leaves}
+use Rattle.walk.proofs.walk.fallen.Statement.{statement}
+use Rattle.walk.proofs.walk.fallen.Tie as tie
+use Rattle.walk.proofs.walk.fallen.Reads as reads
+use Rattle.walk.proofs.walk.fallen.Lts as lts
 
 -- src/walk.rt:56:9
 returns : tie.Need-returns

@@ -1,14 +1,14 @@
 use native.Mathlib.Omega.{arith}
-use Rattle.solver.proofs.Products.{product-fits, sum-fits}
-use Rattle.solver.proofs.WalkLaws.{choosing, safe-small}
-use Rattle.solver.proofs.walk.choose.Statement.{statement}
-use Rattle.solver.proofs.walk.choose.Tie as tie
-use Rattle.solver.proofs.walk.choose.Reads as reads
-use Rattle.solver.proofs.walk.choose.Lts as lts
+use Rattle.walk.proofs.Products.{product-fits, sum-fits}
+use Rattle.walk.proofs.WalkLaws.{choosing, safe-small}
+use Rattle.walk.proofs.walk.choose.Statement.{statement}
+use Rattle.walk.proofs.walk.choose.Tie as tie
+use Rattle.walk.proofs.walk.choose.Reads as reads
+use Rattle.walk.proofs.walk.choose.Lts as lts
 use Rattle.sheet.proofs.kinds.safe_at.Reads as safe-at-reads
-use Rattle.solver.proofs.walk.blocked.Reads as blocked-reads
-use Rattle.solver.proofs.walk.moves_from.Reads as moves-from-reads
-use Rattle.solver.proofs.walk.target.Reads as target-reads
+use Rattle.walk.proofs.walk.blocked.Reads as blocked-reads
+use Rattle.walk.proofs.walk.moves_from.Reads as moves-from-reads
+use Rattle.walk.proofs.walk.target.Reads as target-reads
 
 -- src/walk.rt:104:18
 mul-joined : tie.Need-mul-joined

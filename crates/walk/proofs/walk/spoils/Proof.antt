@@ -1,15 +1,15 @@
 use native.Mathlib.Omega.{arith}
-use Rattle.solver.proofs.Products.{product-fits, sum-fits}
-use Rattle.solver.proofs.WalkLaws.{spoiling}
-use Rattle.solver.proofs.walk.spoils.Statement.{statement}
-use Rattle.solver.proofs.walk.spoils.Tie as tie
-use Rattle.solver.proofs.walk.spoils.Reads as reads
-use Rattle.solver.proofs.walk.spoils.Lts as lts
+use Rattle.walk.proofs.Products.{product-fits, sum-fits}
+use Rattle.walk.proofs.WalkLaws.{spoiling}
+use Rattle.walk.proofs.walk.spoils.Statement.{statement}
+use Rattle.walk.proofs.walk.spoils.Tie as tie
+use Rattle.walk.proofs.walk.spoils.Reads as reads
+use Rattle.walk.proofs.walk.spoils.Lts as lts
 use Rattle.sheet.proofs.form.byte.Reads as byte-reads
 use Rattle.sheet.proofs.form.wide.Reads as wide-reads
 use Rattle.sheet.proofs.kinds.safe_at.Reads as safe-at-reads
-use Rattle.solver.proofs.walk.fallen.Reads as fallen-reads
-use Rattle.solver.proofs.walk.target.Reads as target-reads
+use Rattle.walk.proofs.walk.fallen.Reads as fallen-reads
+use Rattle.walk.proofs.walk.target.Reads as target-reads
 
 -- src/walk.rt:134:27
 mul-byte : tie.Need-mul-byte

@@ -1,19 +1,23 @@
 // Which actions are spoilt at a node, and whether all are. What has fallen is given by marks and a number n: a node whose mark
 // is 1 to n counts as fallen. Nothing is asked of what the arrays hold.
 use crate::level::Level;
+use crate::level::is_node;
 use sheet::form::byte;
 use sheet::form::wide;
 use sheet::kinds::safe_at;
 ghost use mathlib.Core.Path.{_≡_};
 ghost use Prim.Native.Nat.{_≤_, _<_};
+ghost use lib.Dec.{ltb};
 ghost use lib.ListN.{length, getD};
-ghost use Rattle.theory.specs.Fold.{allBelow};
+ghost use Rattle.theory.specs.Fold.{both, allBelow};
 ghost use Rattle.theory.specs.Rounds.{bad, spoiltBy};
 ghost use Rattle.sheet.specs.Meant.{unmark};
-ghost use Rattle.solver.specs.View.{cellAt, toAt, Sized, arenaOf};
-ghost use Rattle.solver.specs.Walks.{fallenBy, blockedAt, movesFrom, outcomeAt, Chosen};
+ghost use Rattle.walk.specs.View.{cellAt, toAt, arenaOf};
+ghost use Rattle.walk.specs.Nodes.{Sized, isNode};
+ghost use Rattle.walk.specs.Walks.{fallenBy, blockedAt, movesFrom, outcomeAt, Chosen};
 
-const ABSENT: usize = 256;
+// The mark of an absent target.
+pub const ABSENT: usize = 256;
 
 // What choosing an action at a node leads to: the oldest action is played and rest is pending after it; the environment's moves
 // are on the lines from first to end; blocked where the action is spoilt before it moves.
@@ -31,7 +35,7 @@ fn wide_mark(x: u16) -> usize
     x as usize
 }
 
-pub(crate) fn target(grid: &[[u16; 8]; 256], q: usize, x: usize) -> usize
+pub fn target(grid: &[[u16; 8]; 256], q: usize, x: usize) -> usize
     ensures { λ r. ⌜ (unmark r ≡ cellAt (now (grid .entry)) q x) × (r < 65536) ⌝ }
 {
     if 256 <= q {
@@ -146,8 +150,7 @@ fn spoils(
     fallen(marks, n, reached * level.power + x.rest)
 }
 
-// Is action c spoilt at node k?
-pub(crate) fn spoilt(
+fn spoilt_at(
     p: &[u8],
     grid: &[[u16; 8]; 256],
     u: &[u8],
@@ -175,9 +178,8 @@ pub(crate) fn spoilt(
     false
 }
 
-// Is every action spoilt at node k? The inner loop leaves for the next action at the first spoiling line; an action whose lines
-// all pass ends the walk.
-pub(crate) fn doomed(
+// The inner loop leaves for the next action at the first spoiling line; an action whose lines all pass ends the walk.
+fn doomed_at(
     p: &[u8],
     grid: &[[u16; 8]; 256],
     u: &[u8],
@@ -214,4 +216,46 @@ pub(crate) fn doomed(
         }
     };
     all
+}
+
+// Is action c spoilt at node k?
+pub fn spoilt(
+    p: &[u8],
+    grid: &[[u16; 8]; 256],
+    u: &[u8],
+    firsts: &[u16; 257],
+    level: Level,
+    marks: &[u16],
+    n: u16,
+    k: usize,
+    c: usize,
+) -> bool
+    ensures { λ r. ⌜ r ≡ both (isNode (length (now (p .entry))) level k) (both (ltb c (level .actions)) (spoiltBy (arenaOf (now (p .entry)) (now (grid .entry)) (now (u .entry)) (now (firsts .entry)) level) (fallenBy n (now (marks .entry))) k c)) ⌝ }
+{
+    if !is_node(p.len(), level, k) {
+        return false;
+    }
+    if level.actions <= c {
+        return false;
+    }
+    spoilt_at(p, grid, u, firsts, level, marks, n, k, c)
+}
+
+// Is every action spoilt at node k?
+pub fn doomed(
+    p: &[u8],
+    grid: &[[u16; 8]; 256],
+    u: &[u8],
+    firsts: &[u16; 257],
+    level: Level,
+    marks: &[u16],
+    n: u16,
+    k: usize,
+) -> bool
+    ensures { λ r. ⌜ r ≡ both (isNode (length (now (p .entry))) level k) (allBelow (spoiltBy (arenaOf (now (p .entry)) (now (grid .entry)) (now (u .entry)) (now (firsts .entry)) level) (fallenBy n (now (marks .entry))) k) (level .actions)) ⌝ }
+{
+    if !is_node(p.len(), level, k) {
+        return false;
+    }
+    doomed_at(p, grid, u, firsts, level, marks, n, k)
 }

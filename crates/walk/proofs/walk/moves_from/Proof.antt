@@ -1,9 +1,9 @@
-use Rattle.solver.proofs.WalkLaws.{leaves}
-use Rattle.solver.proofs.walk.moves_from.Statement.{statement}
-use Rattle.solver.proofs.walk.moves_from.Tie as tie
-use Rattle.solver.proofs.walk.moves_from.Reads as reads
-use Rattle.solver.proofs.walk.moves_from.Lts as lts
-use Rattle.solver.proofs.walk.line_of.Reads as line-of-reads
+use Rattle.walk.proofs.WalkLaws.{leaves}
+use Rattle.walk.proofs.walk.moves_from.Statement.{statement}
+use Rattle.walk.proofs.walk.moves_from.Tie as tie
+use Rattle.walk.proofs.walk.moves_from.Reads as reads
+use Rattle.walk.proofs.walk.moves_from.Lts as lts
+use Rattle.walk.proofs.walk.line_of.Reads as line-of-reads
 
 -- src/walk.rt:86:16
 line-of-requires : tie.Need-line-of-requires

@@ -1,15 +1,15 @@
 use Prim.Native.Nat.{_-_}
 use mathlib.Core.Path.{_≡_}
 use Rattle.theory.specs.Rounds.{spoiltBy}
-use Rattle.solver.specs.View.{arenaOf}
-use Rattle.solver.specs.Walks.{fallenBy}
-use Rattle.solver.proofs.WalkLaws.{spoiltFrom, walking}
-use Rattle.solver.proofs.walk.spoilt.Statement.{statement}
-use Rattle.solver.proofs.walk.spoilt.Tie as tie
-use Rattle.solver.proofs.walk.spoilt.Reads as reads
-use Rattle.solver.proofs.walk.spoilt.Lts as lts
-use Rattle.solver.proofs.walk.choose.Reads as choose-reads
-use Rattle.solver.proofs.walk.spoils.Reads as spoils-reads
+use Rattle.walk.specs.View.{arenaOf}
+use Rattle.walk.specs.Walks.{fallenBy}
+use Rattle.walk.proofs.WalkLaws.{spoiltFrom, walking}
+use Rattle.walk.proofs.walk.spoilt_at.Statement.{statement}
+use Rattle.walk.proofs.walk.spoilt_at.Tie as tie
+use Rattle.walk.proofs.walk.spoilt_at.Reads as reads
+use Rattle.walk.proofs.walk.spoilt_at.Lts as lts
+use Rattle.walk.proofs.walk.choose.Reads as choose-reads
+use Rattle.walk.proofs.walk.spoils.Reads as spoils-reads
 
 abbrev Inv-loop : tie.InvT-loop
 Inv-loop p grid u firsts level marks n k c x line₀ line = spoiltBy (arenaOf p grid u firsts level) (fallenBy n marks) k c ≡ spoiltFrom p grid u level (fallenBy n marks) x line
@@ -61,8 +61,8 @@ loop-again c = search walking
 returns-3 : tie.Need-returns-3 Inv-loop μ-loop
 returns-3 c = search walking
 
-pub spoilt-spec : {M : Type 1} → statement M
-spoilt-spec =
+pub spoilt-at-spec : {M : Type 1} → statement M
+spoilt-at-spec =
     tie.close
     (tie.spec
     Inv-loop

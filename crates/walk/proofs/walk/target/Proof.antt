@@ -1,9 +1,9 @@
-use Rattle.solver.proofs.WalkLaws.{leaves}
-use Rattle.solver.proofs.walk.target.Statement.{statement}
-use Rattle.solver.proofs.walk.target.Tie as tie
-use Rattle.solver.proofs.walk.target.Reads as reads
-use Rattle.solver.proofs.walk.target.Lts as lts
-use Rattle.solver.proofs.walk.wide_mark.Reads as wide-mark-reads
+use Rattle.walk.proofs.WalkLaws.{leaves}
+use Rattle.walk.proofs.walk.target.Statement.{statement}
+use Rattle.walk.proofs.walk.target.Tie as tie
+use Rattle.walk.proofs.walk.target.Reads as reads
+use Rattle.walk.proofs.walk.target.Lts as lts
+use Rattle.walk.proofs.walk.wide_mark.Reads as wide-mark-reads
 
 -- src/walk.rt:38:9
 returns : tie.Need-returns

@@ -19,10 +19,10 @@ use Rattle.theory.specs.Delay.{withWord, movedTo, playedTo, outcomes}
 use Rattle.theory.proofs.Fold.{bool, all-none, all-suc, all-done, below?, not-both, all-again, either-left, any-of-nil, any-of-cons, both-true, both-false, both-none, both-second, either-second, all-short, any-of-map, tabulate-none, tabulate-next}
 use Rattle.sheet.specs.Kinds.{kindAt, isSafe, safeAt}
 use Rattle.sheet.specs.Meant.{unmark}
-use Rattle.solver.specs.declared.level.Level.{Level}
-use Rattle.solver.specs.declared.walk.Choice.{Choice}
-use Rattle.solver.specs.View.{cellAt, toAt, tosBetween, viewOf, levelArena, arenaOf}
-use Rattle.solver.specs.Walks.{fallenBy, blockedAt, movesFrom, movesAfter, playedAt, choiceAt, outcomeBy, outcomeAt, Chosen}
+use Rattle.walk.specs.declared.level.Level.{Level}
+use Rattle.walk.specs.declared.walk.Choice.{Choice}
+use Rattle.walk.specs.View.{cellAt, toAt, tosBetween, viewOf, levelArena, arenaOf}
+use Rattle.walk.specs.Walks.{fallenBy, blockedAt, movesFrom, movesAfter, playedAt, choiceAt, outcomeBy, outcomeAt, Chosen}
 
 -- targets, as the grid has them
 

@@ -1,18 +1,17 @@
 -- What the walk over a node's actions and moves goes through, and when it spoils. Assumes nothing.
 use Prim.Native.Nat.{ℕ, suc, _+_, _*_, _/_, _%_, _<_}
 use mathlib.Core.Path.{_≡_}
-use mathlib.Core.Bool.{Bool, true, false, not, cond}
+use mathlib.Core.Bool.{Bool, true, false, cond}
 use mathlib.Core.List.{List}
 use lib.Dec.{ltb, leb}
 use lib.ListN.{getD}
 use Rattle.theory.specs.Fold.{both}
 use Rattle.theory.specs.Game.{Target, absent, to}
-use Rattle.theory.specs.Rounds.{Arena, spoiltBy, maskBelow}
 use Rattle.theory.specs.Delay.{withWord}
 use Rattle.sheet.specs.Kinds.{safeAt}
-use Rattle.solver.specs.declared.level.Level.{Level}
-use Rattle.solver.specs.declared.walk.Choice.{Choice}
-use Rattle.solver.specs.View.{cellAt}
+use Rattle.walk.specs.declared.level.Level.{Level}
+use Rattle.walk.specs.declared.walk.Choice.{Choice}
+use Rattle.walk.specs.View.{cellAt}
 
 -- "fallen in rounds 1 to n". In a list that is half updated too: what falls now has n + 1
 unfoldable pub fallenBy : ℕ → List ℕ → ℕ → Bool
@@ -52,7 +51,3 @@ pub record Chosen (p : List ℕ) (g : List (List ℕ)) (f : List ℕ) (l : Level
   pub choice : x ≡ choiceAt p g f l q (w * l .actions + c)
   pub end-small : x .end < 65536
   pub rest-word : x .rest < l .power
-
--- the mask of a kept node, what has fallen being the nodes of rank 1 to n
-unfoldable pub allowedIn : Arena → ℕ → List ℕ → ℕ → ℕ
-allowedIn E n ranks k = maskBelow (λ c. not (spoiltBy E (fallenBy n ranks) k c)) (E .actions)

@@ -1,0 +1,4 @@
+-- Laws of the definitions of specs/, on which the proofs of the functions rest.
+pub mod Products
+pub mod NodeLaws
+pub mod WalkLaws
