@@ -25,8 +25,8 @@ use Rattle.sheet.specs.Reading.{delayOf, readAnswer}
 use Rattle.sheet.specs.Meant.{gameOf}
 use Rattle.sheet.specs.declared.reading.Layout.{Layout}
 use Rattle.sheet.proofs.Legality.{legal-game}
-use Rattle.solver.proofs.Over.{over-front, over-beyond}
 use Rattle.solver.specs.Solving.{Solved, solveAnswer, solvedDelay, over, masksAfter, ranksLeft}
+use Rattle.solver.proofs.Over.{over-front, over-beyond}
 
 -- a node that is kept: "of the right side that never falls"
 abbrev pub Kept : Game → ℕ → ℕ → Type 0

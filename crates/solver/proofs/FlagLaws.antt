@@ -28,11 +28,11 @@ use Rattle.sheet.proofs.Legality.{controller-inside, legal-game}
 use Rattle.walk.specs.declared.level.Level.{Level}
 use Rattle.walk.specs.View.{viewOf}
 use Rattle.walk.specs.Nodes.{Sized}
+use Rattle.rounds.proofs.Filling.{filled, filled-none, filled-more, filled-done}
 use Rattle.solver.specs.Levels.{firstsOf, levelAt}
-use Rattle.solver.specs.Strikes.{goodIn, firstWords}
+use Rattle.solver.specs.Kept.{goodIn, firstWords}
 use Rattle.solver.specs.Solving.{over, bodiesGame}
 use Rattle.solver.specs.Flags.{flagWith, flagIn, countIn, flagsCount, flagsAfter}
-use Rattle.solver.proofs.Filling.{filled, filled-none, filled-more, filled-done}
 use Rattle.solver.proofs.LevelLaws.{words-is, level-sized}
 use Rattle.solver.proofs.GoodLaws.{good-is}
 use Rattle.solver.proofs.SolveLaws.{room-read, game-read}

@@ -21,10 +21,11 @@ use Rattle.sheet.specs.Meant.{unmark}
 use Rattle.walk.specs.declared.level.Level.{Level}
 use Rattle.walk.specs.View.{cellAt, viewOf, levelArena, arenaOf}
 use Rattle.walk.specs.Nodes.{Sized}
-use Rattle.solver.specs.Levels.{levelAt}
-use Rattle.solver.specs.Strikes.{rightAt, keptIn, goodOn, goodIn, wordsOn, firstWords}
 use Rattle.walk.proofs.Products.{product-small, product-fits, sum-fits}
 use Rattle.walk.proofs.WalkLaws.{unmark-absent, unmark-to}
+use Rattle.rounds.specs.Strikes.{rightAt}
+use Rattle.solver.specs.Levels.{levelAt}
+use Rattle.solver.specs.Kept.{keptIn, goodOn, goodIn, wordsOn, firstWords}
 use Rattle.solver.proofs.LevelLaws.{arena-is, words-is}
 
 -- kept nodes: r is the answer on the side

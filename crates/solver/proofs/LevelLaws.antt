@@ -20,7 +20,7 @@ use Rattle.sheet.specs.Checks.{nodesOf, powerTo}
 use Rattle.walk.specs.View.{viewOf, levelArena, arenaOf}
 use Rattle.walk.specs.Nodes.{Sized}
 use Rattle.solver.specs.Levels.{Room, levelAt}
-use Rattle.solver.specs.Strikes.{wordsOn, firstWords}
+use Rattle.solver.specs.Kept.{wordsOn, firstWords}
 
 module _ {positions actions delay : ℕ} (room : Room positions actions delay) where
   pub words-few : actions ^ (delay / 2) ≤ 16384

@@ -1,11 +1,9 @@
 -- Laws of the definitions of specs/, on which the proofs of the functions rest.
 pub mod Over
-pub mod Filling
 pub mod LevelLaws
 pub mod GoodLaws
 pub mod MaskLaws
 pub mod MoveLaws
-pub mod RoundLaws
 pub mod SearchLaws
 pub mod Bodies
 pub mod SolveLaws

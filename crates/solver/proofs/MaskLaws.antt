@@ -21,21 +21,11 @@ use Rattle.walk.specs.declared.level.Level.{Level}
 use Rattle.walk.specs.View.{viewOf, levelArena, arenaOf}
 use Rattle.walk.specs.Nodes.{Sized}
 use Rattle.walk.specs.Walks.{fallenBy}
-use Rattle.solver.specs.Strikes.{keptIn, allowedIn, AtMost}
-use Rattle.solver.proofs.Filling.{filled, filled-none, filled-more, filled-done}
+use Rattle.rounds.specs.Strikes.{AtMost}
+use Rattle.rounds.proofs.Filling.{filled, filled-none, filled-more, filled-done}
+use Rattle.rounds.proofs.RoundLaws.{fallen-all}
+use Rattle.solver.specs.Kept.{keptIn, allowedIn}
 use Rattle.solver.proofs.GoodLaws.{kept-is}
-
--- where no rank is over n, fallen in rounds 1 to n is fallen
-pub fallen-fell : (n : ℕ) (ranks : List ℕ) → AtMost n ranks → (k : ℕ) → fallenBy n ranks k ≡ fell ranks k
-unfolding fallenBy fell
-fallen-fell n ranks most k =
-    ⊎-elim
-    (λ (h : getD ranks k 0 < 1). both-none _ _ (le-ltb 0 (getD ranks k 0) (omega arith)) ∙ sym (ap not (eq-eqb (getD ranks k 0) 0 (omega arith))))
-    (λ (h : 1 ≤ getD ranks k 0).
-    both-second _ _ (lt-ltb 0 (getD ranks k 0) (omega arith))
-    ∙ le-leb (getD ranks k 0) n (most k)
-    ∙ sym (ap not (ne-eqb (getD ranks k 0) 0 (λ z. omega arith))))
-    (below? (getD ranks k 0) 1)
 
 pub bit-first : 1 ≡ 2 ^ 0
 bit-first = refl
@@ -105,7 +95,7 @@ module _ (p : List ℕ) (g : List (List ℕ)) (u f : List ℕ) (l : Level) (n : 
   unfolding maskAt allowedIn
   mask-stands {r} {m} e x most q =
       q
-      ∙ ap (λ (t : ℕ → Bool). maskBelow (λ c. not (spoiltBy here t k c)) (here .actions)) (fun-ext (fallen-fell n ranks most))
+      ∙ ap (λ (t : ℕ → Bool). maskBelow (λ c. not (spoiltBy here t k c)) (here .actions)) (fallen-all n ranks most)
       ∙ rw (← kept-is p g u f l ranks k, ← e, not-false r x)
 
 pub ruleset bits = (needs, bits-start, bits-set, bits-kept, bit-first, bit-next, bits-done, add-fits, bit-fits, mask-fits)

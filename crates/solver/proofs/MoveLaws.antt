@@ -10,8 +10,8 @@ use borrow.Author.Needs.{needs}
 use borrow.Author.Tests.{ltb-true, lt-ltb, le-ltb}
 use Rattle.theory.specs.Fold.{allBelow, firstNot}
 use Rattle.theory.proofs.Fold.{bool, all-none, all-at, all-below, all-fails, all-again, first, first-suc, first-unique}
+use Rattle.rounds.proofs.Filling.{filled, filled-none, filled-more, filled-done}
 use Rattle.solver.specs.Levels.{fromBelow, firstLine, firstsOf}
-use Rattle.solver.proofs.Filling.{filled, filled-none, filled-more, filled-done}
 
 module _ (u : List ℕ) (q : ℕ) where
   -- a line passed, and the line looked for

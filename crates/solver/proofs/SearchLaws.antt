@@ -20,8 +20,10 @@ use Rattle.sheet.specs.Checks.{nodesOf}
 use Rattle.walk.specs.declared.level.Level.{Level}
 use Rattle.walk.specs.View.{viewOf, arenaOf}
 use Rattle.walk.specs.Nodes.{Sized}
+use Rattle.rounds.specs.Strikes.{AtMost, isFitted, Ranked}
+use Rattle.rounds.proofs.RankedLaws.{ranked-ranks, ranked-number}
 use Rattle.solver.specs.Levels.{Room, levelAt}
-use Rattle.solver.specs.Strikes.{goodIn, firstWords, AtMost}
+use Rattle.solver.specs.Kept.{goodIn, firstWords}
 use Rattle.solver.specs.Solving.{solvedDelay, over, verdictBy, Stopped}
 use Rattle.solver.proofs.LevelLaws.{nodes-less, room-less, level-sized, arena-is, nodes-is}
 use Rattle.solver.proofs.GoodLaws.{winning-is}
@@ -70,7 +72,10 @@ module _ (p : List ℕ) (g : List (List ℕ)) (u f : List ℕ) (start actions de
 
   -- the rounds gave these ranks at this level
   module _ (l : Level) (is : l ≡ levelAt (length p) start actions d) (ranks : List ℕ) (n : ℕ)
-      (final : ranks ≡ finalRanks (arenaOf p g u f l)) (most : AtMost n ranks) where
+      (ranked : Ranked (isFitted (length p) l (length (take (l .nodes) old))) (arenaOf p g u f l) (take (l .nodes) old) ranks n) where
+    final : ranks ≡ finalRanks (arenaOf p g u f l)
+    final = ranked-ranks (length p) l _ _ _ ranks n (level-here is) (front-length is) ranked
+
     ranks-here : ranks ≡ finalRanks (arena G d)
     ranks-here = final ∙ ap (λ x. finalRanks (arenaOf p g u f x)) is ∙ ap finalRanks (arena-is p g u f start actions d)
 
@@ -111,7 +116,8 @@ module _ (p : List ℕ) (g : List (List ℕ)) (u f : List ℕ) (start actions de
     front-here = take-at ranks (drop (l .nodes) old) (l .nodes) (ranks-length ∙ sym level-nodes)
 
     most-here : AtMost n (finalRanks (arena G d))
-    most-here = rw (← ranks-here) most
+    most-here =
+        rw (← ranks-here) (ranked-number (length p) l _ _ _ ranks n (level-here is) (front-length is) ranked)
 
     module _ {r : Bool} (some : r ≡ anyBelow (goodIn p g l (take (l .nodes) after)) (firstWords l)) where
       tested : r ≡ winning G d

@@ -34,11 +34,11 @@ use Rattle.sheet.specs.declared.reading.Reading.the-variants.{Accepted, Refused
 use Rattle.sheet.proofs.Accepted.{read-is, ranges, carries, arena-nodes}
 use Rattle.sheet.proofs.Legality.{legal-game}
 use Rattle.walk.specs.declared.level.Level.{Level}
-use Rattle.solver.specs.declared.delays.Stop.{Stop}
 use Rattle.walk.specs.View.{viewOf, arenaOf}
 use Rattle.walk.specs.Nodes.{Sized}
+use Rattle.rounds.specs.Strikes.{AtMost}
+use Rattle.solver.specs.declared.delays.Stop.{Stop}
 use Rattle.solver.specs.Levels.{firstsOf, Room, levelAt}
-use Rattle.solver.specs.Strikes.{AtMost}
 use Rattle.solver.specs.Solving.{solveAnswer, solvedDelay, over, masksAfter, ranksLeft, verdictBy, Stopped, bodiesGame, Fillable, Filled}
 use Rattle.solver.proofs.LevelLaws.{nodes-less, room-less, level-sized, arena-is, nodes-is}
 use Rattle.solver.proofs.Bodies.{bodies-game}

@@ -12,7 +12,7 @@ use Rattle.sheet.specs.Reading.{readAnswer, delayOf}
 use Rattle.sheet.specs.Meant.{gameOf}
 use Rattle.sheet.specs.declared.reading.Layout.{Layout}
 use Rattle.walk.specs.declared.level.Level.{Level}
-use Rattle.solver.specs.Strikes.{goodIn}
+use Rattle.solver.specs.Kept.{goodIn}
 use Rattle.solver.specs.Solving.{over}
 
 -- "1 if good, else 0", by any ranks

@@ -1,6 +1,6 @@
 -- What solving a sheet answers and leaves in the lent buffers. Each file says what it defines.
 pub mod Levels
-pub mod Strikes
+pub mod Kept
 pub mod Solving
 pub mod Flags
 pub mod Cases

@@ -17,8 +17,8 @@ use Rattle.sheet.specs.Checks.{nodesOf}
 use Rattle.sheet.specs.Meant.{gameOf, gridOf}
 use Rattle.sheet.specs.declared.reading.Layout.{Layout}
 use Rattle.walk.specs.View.{viewOf}
+use Rattle.rounds.specs.Strikes.{AtMost}
 use Rattle.solver.specs.Levels.{firstsOf, Room}
-use Rattle.solver.specs.Strikes.{AtMost}
 use Rattle.solver.specs.declared.delays.Stop.{Stop}
 use Rattle.solver.specs.declared.solve.Solution.{Solution}
 use Rattle.solver.specs.declared.solve.Solution.the-variants.{Winning, Losing, Refused}

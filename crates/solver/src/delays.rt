@@ -1,8 +1,8 @@
 // From delay 0 upward to the asked delay or the first that loses. Nodes grow with the delay, so nothing beyond the owed entries
 // of the rank buffer is touched.
 use crate::level::level_at;
-use crate::rounds::rounds;
 use crate::words::some_good;
+use rounds::rounds::rounds;
 ghost use Prim.Native.Nat.{_≤_};
 ghost use lib.ListN.{length};
 ghost use Rattle.theory.specs.Game.{Legal};

@@ -1,6 +1,6 @@
 // Good first words, once the ranks stand.
 use crate::level::level_at;
-use crate::rounds::on_right;
+use rounds::rounds::on_right;
 use sheet::form::part;
 use sheet::grid::grid_of;
 use sheet::kinds::safe_at;
@@ -14,7 +14,7 @@ ghost use Prim.Native.Nat.{_<_};
 ghost use lib.ListN.{length};
 ghost use Rattle.theory.specs.Fold.{anyBelow, tabulate};
 ghost use Rattle.walk.specs.Nodes.{Sized};
-ghost use Rattle.solver.specs.Strikes.{keptIn, goodIn, firstWords};
+ghost use Rattle.solver.specs.Kept.{keptIn, goodIn, firstWords};
 ghost use Rattle.solver.specs.Flags.{flagIn, flagsCount, flagsAfter};
 
 pub(crate) fn kept(p: &[u8], level: Level, ranks: &[u16], k: usize) -> bool

@@ -13,7 +13,7 @@ use Rattle.walk.specs.declared.level.Level.{Level}
 use Rattle.walk.specs.Nodes.{Sized, isSized, isNode}
 
 module _ (positions : ℕ) (l : Level) where
-  sized-tested : Sized positions l → isSized positions l ≡ true
+  pub sized-tested : Sized positions l → isSized positions l ≡ true
   unfolding isSized
   sized-tested s =
       both-true _ _ (le-leb _ _ (s .few-positions))
@@ -22,7 +22,7 @@ module _ (positions : ℕ) (l : Level) where
       (both-true _ _ (le-leb _ _ (s .few-words))
       (both-true _ _ (le-leb _ _ (s .few-nodes)) (eq-eqb _ _ (s .all-nodes))))))
 
-  tested-sized : isSized positions l ≡ true → Sized positions l
+  pub tested-sized : isSized positions l ≡ true → Sized positions l
   unfolding isSized
   tested-sized e =
       let a = both-right _ _ e in

@@ -4,8 +4,8 @@ use mathlib.Core.Bool.{true}
 use native.Mathlib.Omega.{arith}
 use lib.ListN.{length}
 use Rattle.theory.specs.Fold.{allBelow}
+use Rattle.rounds.proofs.Filling.{filled}
 use Rattle.solver.specs.Levels.{fromBelow, firstLine}
-use Rattle.solver.proofs.Filling.{filled}
 use Rattle.solver.proofs.MoveLaws.{index-inside, indexing}
 use Rattle.solver.proofs.moves.first_lines.Statement.{statement}
 use Rattle.solver.proofs.moves.first_lines.Tie as tie

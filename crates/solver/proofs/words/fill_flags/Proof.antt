@@ -2,8 +2,8 @@
 use Prim.Native.Nat.{_-_, _≤_}
 use mathlib.Core.Path.{_≡_}
 use lib.ListN.{length}
+use Rattle.rounds.proofs.Filling.{filled}
 use Rattle.solver.specs.Flags.{flagIn}
-use Rattle.solver.proofs.Filling.{filled}
 use Rattle.solver.proofs.FlagLaws.{all-flags}
 use Rattle.solver.proofs.words.fill_flags.Statement.{statement}
 use Rattle.solver.proofs.words.fill_flags.Tie as tie

@@ -1,8 +1,8 @@
-use Rattle.solver.proofs.RoundLaws.{sides}
-use Rattle.solver.proofs.rounds.on_right.Statement.{statement}
-use Rattle.solver.proofs.rounds.on_right.Tie as tie
-use Rattle.solver.proofs.rounds.on_right.Reads as reads
-use Rattle.solver.proofs.rounds.on_right.Lts as lts
+use Rattle.rounds.proofs.RoundLaws.{sides}
+use Rattle.rounds.proofs.rounds.on_right.Statement.{statement}
+use Rattle.rounds.proofs.rounds.on_right.Tie as tie
+use Rattle.rounds.proofs.rounds.on_right.Reads as reads
+use Rattle.rounds.proofs.rounds.on_right.Lts as lts
 use Rattle.sheet.proofs.kinds.controller_at.Reads as controller-at-reads
 
 -- src/rounds.rt:20:17

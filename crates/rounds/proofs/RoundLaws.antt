@@ -22,8 +22,8 @@ use Rattle.walk.specs.declared.level.Level.{Level}
 use Rattle.walk.specs.View.{viewOf, levelArena, arenaOf}
 use Rattle.walk.specs.Walks.{fallenBy}
 use Rattle.walk.proofs.NodeLaws.{at-node}
-use Rattle.solver.specs.Strikes.{rightAt, firstRank, struckBy, strikes, nextRanks, AtMost}
-use Rattle.solver.proofs.Filling.{filled, filled-none, filled-more, filled-keep, filled-done, filled-below, filled-above}
+use Rattle.rounds.specs.Strikes.{rightAt, firstRank, struckBy, strikes, nextRanks, AtMost}
+use Rattle.rounds.proofs.Filling.{filled, filled-none, filled-more, filled-keep, filled-done, filled-below, filled-above}
 
 -- sides
 

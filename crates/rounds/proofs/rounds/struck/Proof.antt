@@ -1,9 +1,9 @@
-use Rattle.solver.proofs.RoundLaws.{striking}
-use Rattle.solver.proofs.rounds.struck.Statement.{statement}
-use Rattle.solver.proofs.rounds.struck.Tie as tie
-use Rattle.solver.proofs.rounds.struck.Reads as reads
-use Rattle.solver.proofs.rounds.struck.Lts as lts
-use Rattle.solver.proofs.rounds.on_right.Reads as on-right-reads
+use Rattle.rounds.proofs.RoundLaws.{striking}
+use Rattle.rounds.proofs.rounds.struck.Statement.{statement}
+use Rattle.rounds.proofs.rounds.struck.Tie as tie
+use Rattle.rounds.proofs.rounds.struck.Reads as reads
+use Rattle.rounds.proofs.rounds.struck.Lts as lts
+use Rattle.rounds.proofs.rounds.on_right.Reads as on-right-reads
 use Rattle.walk.proofs.walk.doomed.Reads as doomed-reads
 
 -- src/rounds.rt:64:16

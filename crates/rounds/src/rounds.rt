@@ -2,6 +2,7 @@
 use sheet::kinds::controller_at;
 use sheet::kinds::safe_at;
 use walk::level::Level;
+use walk::level::is_sized;
 use walk::walk::doomed;
 ghost use mathlib.Core.Path.{_≡_};
 ghost use Prim.Native.Nat.{_≤_, _<_};
@@ -10,10 +11,10 @@ ghost use Rattle.theory.specs.Fold.{anyBelow, tabulate};
 ghost use Rattle.theory.specs.Rounds.{finalRanks};
 ghost use Rattle.walk.specs.View.{arenaOf};
 ghost use Rattle.walk.specs.Nodes.{Sized};
-ghost use Rattle.solver.specs.Strikes.{rightAt, firstRank, struckBy, strikes, nextRanks, AtMost};
+ghost use Rattle.rounds.specs.Strikes.{rightAt, firstRank, struckBy, strikes, nextRanks, AtMost, isFitted, Ranked};
 
 // Is this position of the side whose nodes can fall?
-pub(crate) fn on_right(p: &[u8], odd: bool, q: usize) -> bool
+pub fn on_right(p: &[u8], odd: bool, q: usize) -> bool
     ensures { λ r. ⌜ r ≡ rightAt odd (now (p .entry)) q ⌝ }
 {
     if odd {
@@ -97,8 +98,7 @@ fn round(
     any
 }
 
-// All rounds, and their number: the last one in which a node fell, or round 1.
-pub(crate) fn rounds(
+fn all_rounds(
     p: &[u8],
     grid: &[[u16; 8]; 256],
     u: &[u8],
@@ -118,4 +118,25 @@ pub(crate) fn rounds(
         n += 1;
     };
     last
+}
+
+// All rounds, and their number: the last one in which a node fell, or round 1. Nothing, and 0, where the level is not a small one or
+// the buffer has not an entry for each node.
+pub fn rounds(
+    p: &[u8],
+    grid: &[[u16; 8]; 256],
+    u: &[u8],
+    firsts: &[u16; 257],
+    level: Level,
+    ranks: &mut [u16],
+) -> u16
+    ensures { λ r. ⌜ Ranked (isFitted (length (now (p .entry))) level (length (now (ranks .entry)))) (arenaOf (now (p .entry)) (now (grid .entry)) (now (u .entry)) (now (firsts .entry)) level) (now (ranks .entry)) (now (ranks .exit)) r ⌝ }
+{
+    if !is_sized(p.len(), level) {
+        return 0;
+    }
+    if ranks.len() != level.nodes {
+        return 0;
+    }
+    all_rounds(p, grid, u, firsts, level, ranks)
 }

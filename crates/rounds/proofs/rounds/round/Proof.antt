@@ -6,14 +6,14 @@ use lib.ListN.{length, length-set}
 use Rattle.theory.specs.Fold.{anyBelow}
 use Rattle.theory.specs.Rounds.{rankIn}
 use Rattle.walk.specs.View.{arenaOf}
-use Rattle.solver.specs.Strikes.{strikes}
-use Rattle.solver.proofs.Filling.{filled}
-use Rattle.solver.proofs.RoundLaws.{round-struck, round-kept, any-struck, any-kept, rounding}
-use Rattle.solver.proofs.rounds.round.Statement.{statement}
-use Rattle.solver.proofs.rounds.round.Tie as tie
-use Rattle.solver.proofs.rounds.round.Reads as reads
-use Rattle.solver.proofs.rounds.round.Lts as lts
-use Rattle.solver.proofs.rounds.struck.Reads as struck-reads
+use Rattle.rounds.specs.Strikes.{strikes}
+use Rattle.rounds.proofs.Filling.{filled}
+use Rattle.rounds.proofs.RoundLaws.{round-struck, round-kept, any-struck, any-kept, rounding}
+use Rattle.rounds.proofs.rounds.round.Statement.{statement}
+use Rattle.rounds.proofs.rounds.round.Tie as tie
+use Rattle.rounds.proofs.rounds.round.Reads as reads
+use Rattle.rounds.proofs.rounds.round.Lts as lts
+use Rattle.rounds.proofs.rounds.struck.Reads as struck-reads
 
 abbrev Inv-loop : tie.InvT-loop
 Inv-loop p grid u firsts level ranks₀ n any₀ k₀ ranks any k =

@@ -1,14 +1,14 @@
 use Prim.Native.Nat.{_-_, _≤_}
 use mathlib.Core.Path.{_≡_}
 use lib.ListN.{length}
-use Rattle.solver.specs.Strikes.{firstRank}
-use Rattle.solver.proofs.Filling.{filled}
-use Rattle.solver.proofs.RoundLaws.{filling}
-use Rattle.solver.proofs.rounds.first_round.Statement.{statement}
-use Rattle.solver.proofs.rounds.first_round.Tie as tie
-use Rattle.solver.proofs.rounds.first_round.Reads as reads
-use Rattle.solver.proofs.rounds.first_round.Lts as lts
-use Rattle.solver.proofs.rounds.first_rank.Reads as first-rank-reads
+use Rattle.rounds.specs.Strikes.{firstRank}
+use Rattle.rounds.proofs.Filling.{filled}
+use Rattle.rounds.proofs.RoundLaws.{filling}
+use Rattle.rounds.proofs.rounds.first_round.Statement.{statement}
+use Rattle.rounds.proofs.rounds.first_round.Tie as tie
+use Rattle.rounds.proofs.rounds.first_round.Reads as reads
+use Rattle.rounds.proofs.rounds.first_round.Lts as lts
+use Rattle.rounds.proofs.rounds.first_rank.Reads as first-rank-reads
 
 abbrev Inv-loop : tie.InvT-loop
 Inv-loop p level ranks₀ k₀ ranks k = (k ≤ level .nodes) × (length ranks ≡ length ranks₀) × (ranks ≡ filled (firstRank p level) k ranks₀)

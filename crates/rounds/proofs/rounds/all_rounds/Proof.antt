@@ -3,13 +3,13 @@ use mathlib.Core.Path.{_≡_}
 use lib.ListN.{length}
 use Rattle.theory.specs.Rounds.{ranksAfter}
 use Rattle.walk.specs.View.{arenaOf}
-use Rattle.solver.proofs.RoundLaws.{standing, allRounds}
-use Rattle.solver.proofs.rounds.rounds.Statement.{statement}
-use Rattle.solver.proofs.rounds.rounds.Tie as tie
-use Rattle.solver.proofs.rounds.rounds.Reads as reads
-use Rattle.solver.proofs.rounds.rounds.Lts as lts
-use Rattle.solver.proofs.rounds.first_round.Reads as first-round-reads
-use Rattle.solver.proofs.rounds.round.Reads as round-reads
+use Rattle.rounds.proofs.RoundLaws.{standing, allRounds}
+use Rattle.rounds.proofs.rounds.all_rounds.Statement.{statement}
+use Rattle.rounds.proofs.rounds.all_rounds.Tie as tie
+use Rattle.rounds.proofs.rounds.all_rounds.Reads as reads
+use Rattle.rounds.proofs.rounds.all_rounds.Lts as lts
+use Rattle.rounds.proofs.rounds.first_round.Reads as first-round-reads
+use Rattle.rounds.proofs.rounds.round.Reads as round-reads
 
 abbrev Inv-loop : tie.InvT-loop
 Inv-loop p grid u firsts level ranks₀ n₀ ranks n =
@@ -53,8 +53,8 @@ same-length c = search allRounds
 returns : tie.Need-returns Inv-loop μ-loop
 returns c = search allRounds
 
-pub rounds-spec : {M : Type 1} → statement M
-rounds-spec =
+pub all-rounds-spec : {M : Type 1} → statement M
+all-rounds-spec =
     tie.close
     (tie.spec
     Inv-loop

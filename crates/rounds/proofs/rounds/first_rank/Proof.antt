@@ -1,10 +1,10 @@
-use Rattle.solver.proofs.RoundLaws.{firstly}
-use Rattle.solver.proofs.rounds.first_rank.Statement.{statement}
-use Rattle.solver.proofs.rounds.first_rank.Tie as tie
-use Rattle.solver.proofs.rounds.first_rank.Reads as reads
-use Rattle.solver.proofs.rounds.first_rank.Lts as lts
+use Rattle.rounds.proofs.RoundLaws.{firstly}
+use Rattle.rounds.proofs.rounds.first_rank.Statement.{statement}
+use Rattle.rounds.proofs.rounds.first_rank.Tie as tie
+use Rattle.rounds.proofs.rounds.first_rank.Reads as reads
+use Rattle.rounds.proofs.rounds.first_rank.Lts as lts
 use Rattle.sheet.proofs.kinds.safe_at.Reads as safe-at-reads
-use Rattle.solver.proofs.rounds.on_right.Reads as on-right-reads
+use Rattle.rounds.proofs.rounds.on_right.Reads as on-right-reads
 
 -- src/rounds.rt:29:13
 div-q : tie.Need-div-q

@@ -1,0 +1,4 @@
+-- Laws of the definitions of specs/, on which the proofs of the functions rest.
+pub mod Filling
+pub mod RoundLaws
+pub mod RankedLaws
