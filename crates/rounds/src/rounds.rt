@@ -98,6 +98,7 @@ fn round(
     any
 }
 
+// All rounds, and their number: the last one in which a node fell, or round 1.
 fn all_rounds(
     p: &[u8],
     grid: &[[u16; 8]; 256],
@@ -120,8 +121,8 @@ fn all_rounds(
     last
 }
 
-// All rounds, and their number: the last one in which a node fell, or round 1. Nothing, and 0, where the level is not a small one or
-// the buffer has not an entry for each node.
+// The same for any level and buffer: nothing is done, and the number is 0, where the level is too large or the buffer has not one
+// entry for each node.
 pub fn rounds(
     p: &[u8],
     grid: &[[u16; 8]; 256],

@@ -1,26 +1,26 @@
 -- The masks, as the code of src/masks.rt makes them, and that they are theory's. Assumes nothing.
 use Prim.Native.Nat.{ℕ, _+_, _*_, _^_, _≤_, _<_}
-use mathlib.Core.Path.{_≡_, refl, sym, _∙_, ap, fun-ext}
+use mathlib.Core.Path.{_≡_, refl, sym, _∙_, ap}
 use mathlib.Core.Bool.{Bool, true, false, not, cond}
-use mathlib.Core.Logic.{⊎-elim}
 use mathlib.Core.List.{List}
 use native.Mathlib.Omega.{arith}
 use native.Mathlib.Nat.{pow-suc}
 use native.Mathlib.Numerals.{add-one}
 use mir.Val.{Fits}
 use mir.Syntax.{w8, w64}
+use lib.Dec.{ltb}
 use lib.Pow.{pow-mono}
-use lib.ListN.{length, getD, set}
+use lib.ListN.{length, set}
 use borrow.Author.Needs.{needs}
-use borrow.Author.Tests.{eq-eqb, ne-eqb, lt-ltb, le-ltb, le-leb, not-true, not-false}
-use Rattle.theory.specs.Fold.{tabulate}
-use Rattle.theory.specs.Rounds.{Arena, spoiltBy, fell, maskBelow, maskAt, masksBy}
-use Rattle.theory.proofs.Fold.{below?, both-none, both-second}
+use borrow.Author.Tests.{not-true, not-false}
+use Rattle.theory.specs.Fold.{both, tabulate}
+use Rattle.theory.specs.Rounds.{Arena, spoiltBy, maskBelow, maskAt, masksBy}
 use Rattle.theory.proofs.Masks.{mask-lt}
 use Rattle.walk.specs.declared.level.Level.{Level}
 use Rattle.walk.specs.View.{viewOf, levelArena, arenaOf}
-use Rattle.walk.specs.Nodes.{Sized}
+use Rattle.walk.specs.Nodes.{Sized, isNode}
 use Rattle.walk.specs.Walks.{fallenBy}
+use Rattle.walk.proofs.NodeLaws.{at-action}
 use Rattle.rounds.specs.Strikes.{AtMost}
 use Rattle.rounds.proofs.Filling.{filled, filled-none, filled-more, filled-done}
 use Rattle.rounds.proofs.RoundLaws.{fallen-all}
@@ -52,15 +52,6 @@ module _ (E : Arena) (n : ℕ) (ranks : List ℕ) (k : ℕ) where
   unfolding allowedBelow maskBelow
   bits-suc c = rw (add-one c)
 
-  -- an action that is not spoilt adds its bit b
-  pub bits-set : (c : ℕ) {m b s : ℕ} {r : Bool} → s ≡ m + b → m ≡ allowedBelow E n ranks k c → b ≡ 2 ^ c
-      → r ≡ spoiltBy E (fallenBy n ranks) k c → not r ≡ true → s ≡ allowedBelow E n ranks k (c + 1)
-  bits-set c {m} {b} {s} {r} i e q f x = i ∙ sym (bits-suc c ∙ rw (← f, x, ← e, ← q))
-
-  pub bits-kept : (c : ℕ) {m s : ℕ} {r : Bool} → s ≡ m → m ≡ allowedBelow E n ranks k c → r ≡ spoiltBy E (fallenBy n ranks) k c
-      → not r ≡ false → s ≡ allowedBelow E n ranks k (c + 1)
-  bits-kept c {m} {s} {r} i e f x = let z : m + 0 ≡ m = omega arith in i ∙ sym (bits-suc c ∙ rw (← f, x, ← e, z))
-
   pub bits-small : (c : ℕ) {m : ℕ} → m ≡ allowedBelow E n ranks k c → c ≤ 8 → m < 256
   unfolding allowedBelow
   bits-small c {m} e h =
@@ -82,6 +73,23 @@ module _ (p : List ℕ) (g : List (List ℕ)) (u f : List ℕ) (l : Level) (n : 
   abbrev here : Arena
   here = arenaOf p g u f l
 
+  -- what the walk answers at action c of a node that exists
+  abbrev Answered : ℕ → Bool → Type 0
+  Answered c r = r ≡ both (isNode (length p) l k) (both (ltb c (l .actions)) (spoiltBy here (fallenBy n ranks) k c))
+
+  -- an action that is not spoilt adds its bit b
+
+  pub bits-set : (c : ℕ) {m b s : ℕ} {r : Bool} → Sized (length p) l → k < l .nodes → c < l .actions → s ≡ m + b
+      → m ≡ allowedBelow here n ranks k c → b ≡ 2 ^ c → Answered c r → not r ≡ true → s ≡ allowedBelow here n ranks k (c + 1)
+  bits-set c {m} {b} {s} {r} z h a i e q f x =
+      i ∙ sym (bits-suc here n ranks k c ∙ rw (← at-action (length p) l k c z h a f, x, ← e, ← q))
+
+  pub bits-kept : (c : ℕ) {m s : ℕ} {r : Bool} → Sized (length p) l → k < l .nodes → c < l .actions → s ≡ m
+      → m ≡ allowedBelow here n ranks k c → Answered c r → not r ≡ false → s ≡ allowedBelow here n ranks k (c + 1)
+  bits-kept c {m} {s} {r} z h a i e f x =
+      let o : m + 0 ≡ m = omega arith in
+      i ∙ sym (bits-suc here n ranks k c ∙ rw (← at-action (length p) l k c z h a f, x, ← e, o))
+
   pub bits-done : (c : ℕ) {m : ℕ} → c ≤ l .actions → l .actions ≤ c → m ≡ allowedBelow here n ranks k c → m ≡ allowedIn here n ranks k
   unfolding allowedBelow allowedIn arenaOf levelArena viewOf
   bits-done c {m} h j e = let q : c ≡ l .actions = omega arith in rw q at e
@@ -98,7 +106,7 @@ module _ (p : List ℕ) (g : List (List ℕ)) (u f : List ℕ) (l : Level) (n : 
       ∙ ap (λ (t : ℕ → Bool). maskBelow (λ c. not (spoiltBy here t k c)) (here .actions)) (fallen-all n ranks most)
       ∙ rw (← kept-is p g u f l ranks k, ← e, not-false r x)
 
-pub ruleset bits = (needs, bits-start, bits-set, bits-kept, bit-first, bit-next, bits-done, add-fits, bit-fits, mask-fits)
+pub ruleset bits = (needs, bits-start, bit-first, bits-done, add-fits, bit-fits, mask-fits)
 
 pub ruleset a-mask = (needs, mask-lost, mask-stands)
 

@@ -150,6 +150,7 @@ fn spoils(
     fallen(marks, n, reached * level.power + x.rest)
 }
 
+// Is action c spoilt at node k, which exists?
 fn spoilt_at(
     p: &[u8],
     grid: &[[u16; 8]; 256],
@@ -178,7 +179,8 @@ fn spoilt_at(
     false
 }
 
-// The inner loop leaves for the next action at the first spoiling line; an action whose lines all pass ends the walk.
+// Is every action spoilt at node k, which exists? The inner loop leaves for the next action at the first spoiling line; an action
+// whose lines all pass ends the walk.
 fn doomed_at(
     p: &[u8],
     grid: &[[u16; 8]; 256],
@@ -218,7 +220,7 @@ fn doomed_at(
     all
 }
 
-// Is action c spoilt at node k?
+// Is action c spoilt at node k? Where there is no such node or action, no.
 pub fn spoilt(
     p: &[u8],
     grid: &[[u16; 8]; 256],
@@ -241,7 +243,7 @@ pub fn spoilt(
     spoilt_at(p, grid, u, firsts, level, marks, n, k, c)
 }
 
-// Is every action spoilt at node k?
+// Is every action spoilt at node k? A node that does not exist is not doomed.
 pub fn doomed(
     p: &[u8],
     grid: &[[u16; 8]; 256],

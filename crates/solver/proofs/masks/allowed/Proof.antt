@@ -4,7 +4,6 @@ use mathlib.Core.Path.{_≡_}
 use mathlib.Core.Logic.{⊎-elim}
 use borrow.Author.Needs.{needs}
 use Rattle.walk.specs.View.{arenaOf}
-use Rattle.walk.proofs.NodeLaws.{at-action}
 use Rattle.solver.proofs.MaskLaws.{allowedBelow, bits, bits-set, bits-kept, bit-next}
 use Rattle.solver.proofs.masks.allowed.Statement.{statement}
 use Rattle.solver.proofs.masks.allowed.Tie as tie
@@ -37,10 +36,19 @@ loop-again : tie.Need-loop-again Inv-loop μ-loop
 loop-again c =
     let l = c .before .before .before .before .loop in
     let i = c .before .before .before .before .before .before .before .before .pre in
-    let r = at-action _ _ _ _ (i .0) (i .1) (c .before .before .if1 .taken) (c .before .spoilt .ensures) in
+    let a = c .before .before .if1 .taken in
+    let r = c .before .spoilt .ensures in
     ⊎-elim
-    (λ w. (search needs, bits-set _ _ _ _ (l .c) (w .1) (l .inv .1) (l .inv .2) r (w .0 .taken), bit-next (l .c) (l .inv .2)))
-    (λ w. (search needs, bits-kept _ _ _ _ (l .c) (w .1) (l .inv .1) r (w .0 .left), bit-next (l .c) (l .inv .2)))
+    (λ w. (
+      search needs,
+      bits-set _ _ _ _ _ _ _ _ (l .c) (i .0) (i .1) a (w .1) (l .inv .1) (l .inv .2) r (w .0 .taken),
+      bit-next (l .c) (l .inv .2),
+    ))
+    (λ w. (
+      search needs,
+      bits-kept _ _ _ _ _ _ _ _ (l .c) (i .0) (i .1) a (w .1) (l .inv .1) r (w .0 .left),
+      bit-next (l .c) (l .inv .2),
+    ))
     (c .if2 .came)
 
 cast-result : tie.Need-cast-result Inv-loop μ-loop
