@@ -1,22 +1,23 @@
 -- Checks 10 to 12 and the masks, as the code of src/reading.rt finds them: the checks before have passed, and one fails.
 -- Assumes nothing.
-use Prim.Native.Nat.{ℕ, _+_, _^_, _≤_, _<_}
+use Prim.Native.Nat.{ℕ, _+_, _-_, _^_, _≤_, _<_}
 use mathlib.Core.Path.{_≡_, refl, sym, _∙_, ap}
 use mathlib.Core.Bool.{Bool, true, false, not}
+use mathlib.Core.Logic.{⊎-elim}
 use mathlib.Core.List.{List, []}
 use native.Mathlib.Omega.{arith}
 use native.Mathlib.Nat.{le-trans}
-use lib.Dec.{leb, ltb}
-use lib.Pow.{pow-mono}
+use lib.Dec.{leb}
+use lib.Pow.{pow-pos, pow-mono}
 use lib.ListN.{length, getD}
 use borrow.Author.Needs.{needs}
-use borrow.Author.Tests.{leb-true, le-leb, lt-leb, eq-eqb, ne-eqb}
+use borrow.Author.Tests.{leb-true, le-leb, lt-leb, lt-ltb, le-ltb, eq-eqb, ne-eqb}
 use Rattle.theory.specs.Fold.{allBelow, anyBelow}
 use Rattle.theory.specs.Answer.{Answer, refused, accepted, check, onAccepted}
 use Rattle.theory.specs.Strategy.{initialLength}
 use Rattle.theory.specs.Table.{Table, flagged}
 use Rattle.theory.proofs.Answer.{check-passed}
-use Rattle.theory.proofs.Fold.{both-false, both-left, both-right, all-none, all-done, any-none, any-holds, any-again, any-done, both-none, both-second, failed, passed, all-next, all-stopped}
+use Rattle.theory.proofs.Fold.{bool, both-false, both-left, both-right, all-none, all-again, all-fails, all-short, any-none, any-holds, any-again, any-done, both-none, both-second, failed, passed}
 use Rattle.sheet.specs.Form.{contentsOk, placedAt, partAt, bodyOf}
 use Rattle.sheet.specs.Checks.{powerTo, nodesOf}
 use Rattle.sheet.specs.Refusals.{numberOf}
@@ -76,22 +77,47 @@ module _ (size : ℕ) (l : TableLayout) where
 
 pub ruleset numbers = (needs, size-wrong, no-action, many-actions, long-delay, high-start, numbers-end)
 
--- every byte below a bound
+-- no byte above the top; x is whether none before k is
 
-pub below-is : (bound : ℕ) (b : List ℕ) (k x v : ℕ) → x ≡ getD b k 0 → v ≡ x → ltb v bound ≡ belowAt bound b k
-unfolding belowAt
-below-is bound b k x v e f = rw (f, e)
+module _ (top : ℕ) (b : List ℕ) where
+  pub below-first : true ≡ allBelow (belowAt (top + 1) b) 0
+  below-first = sym (all-none (belowAt (top + 1) b))
 
-module _ (bound : ℕ) (b : List ℕ) where
-  pub below-stopped : (k : ℕ) (r : Bool) → k < length b → r ≡ belowAt bound b k → not r ≡ true → false ≡ bytesBelow bound b
+  -- the byte at k is above the top
+  pub below-over : (k : ℕ) → top < getD b k 0 → false ≡ allBelow (belowAt (top + 1) b) (k + 1)
+  unfolding belowAt
+  below-over k h = sym (all-fails (belowAt (top + 1) b) k (k + 1) (omega arith) (le-ltb (getD b k 0) (top + 1) (omega arith)))
+
+  -- it is not, and changes nothing
+  pub below-same : (k : ℕ) (x : Bool) → x ≡ allBelow (belowAt (top + 1) b) k → getD b k 0 ≤ top → x ≡ allBelow (belowAt (top + 1) b) (k + 1)
+  unfolding belowAt
+  below-same k x e h =
+      let p = belowAt (top + 1) b in
+      let small : p k ≡ true = lt-ltb (getD b k 0) (top + 1) (omega arith) in
+      ⊎-elim
+      (λ (t : x ≡ true). t ∙ sym (all-again p k (sym e ∙ t) refl small))
+      (λ (f : x ≡ false). f ∙ sym (all-short p (omega arith) (sym e ∙ f)))
+      (bool x)
+
+  pub below-done : (k : ℕ) (x : Bool) → k ≤ length b → length b ≤ k → x ≡ allBelow (belowAt (top + 1) b) k → x ≡ bytesBelow (top + 1) b
   unfolding bytesBelow
-  below-stopped k r h e f = sym (all-stopped (belowAt bound b) k (length b) h e f)
+  below-done k x l g e = let q : k ≡ length b = omega arith in e ∙ ap (allBelow (belowAt (top + 1) b)) q
 
-  pub below-done : (k : ℕ) → k ≤ length b → length b ≤ k → allBelow (belowAt bound b) k ≡ true → true ≡ bytesBelow bound b
-  unfolding bytesBelow
-  below-done k l g a = sym (all-done (belowAt bound b) l g a)
+pub ruleset below = (needs, below-first, below-over, below-same, below-done)
 
-pub ruleset below = (needs, all-none, all-next, below-is, below-stopped, below-done)
+-- the number y of masks of at most 8 actions: there are some, and the largest is a byte; a is A as a number
+
+module _ (a n y : ℕ) (few : n ≤ 8) (ea : a ≡ n) (ey : y ≡ powerTo 2 a) where
+  masks-are : y ≡ 2 ^ n
+  masks-are =
+      let most : 2 ^ n ≤ 512 = le-trans (pow-mono few) (omega arith) in
+      ey ∙ ap (powerTo 2) ea ∙ small-power 2 n most
+
+  pub some-mask : 1 ≤ y
+  some-mask = rw masks-are (pow-pos n)
+
+  pub mask-byte : y - 1 < 256
+  mask-byte = let most : 2 ^ n ≤ 256 = pow-mono few in omega (arith, masks-are)
 
 -- 11, the W and T bodies; v is the highest position as a number, x and n what the lengths must be, r a test's result
 
@@ -115,17 +141,17 @@ module _ (l : TableLayout) (w t : List ℕ) (x : ℕ) (ex : x ≡ l .actions ^ i
       flag-over g = sym (both-false _ _ (both-false _ _ (both-none _ _ (failed er g))))
 
       pub bodies-end : (a y : ℕ) (q : Bool) → l .actions ≤ 8 → length w ≡ x → length t ≡ n → not r ≡ false → a ≡ l .actions
-          → y ≡ powerTo 2 a → q ≡ bytesBelow y t → q ≡ bodiesOk (says l w t)
+          → y ≡ powerTo 2 a → q ≡ bytesBelow (y - 1 + 1) t → q ≡ bodiesOk (says l w t)
       unfolding bodiesOk
       bodies-end a y q few ew et g ea ey eq =
-          let two : 2 ^ l .actions ≤ 512 = le-trans (pow-mono few) (omega arith) in
-          let same : y ≡ 2 ^ l .actions = ey ∙ ap (powerTo 2) ea ∙ small-power 2 (l .actions) two in
+          let is : y ≡ 2 ^ l .actions = masks-are a (l .actions) y few ea ey in
+          let top : y - 1 + 1 ≡ 2 ^ l .actions = omega (arith, pow-pos (l .actions)) in
           eq
-          ∙ ap (λ b. bytesBelow b t) same
+          ∙ ap (λ b. bytesBelow b t) top
           ∙ sym
           (both-second _ _ (eq-eqb _ _ (ew ∙ ex)) ∙ both-second _ _ (eq-eqb _ _ (et ∙ nodes-are)) ∙ both-second _ _ (passed er g))
 
-pub ruleset bodies = (needs, words-wrong, nodes-wrong, flag-over, bodies-end)
+pub ruleset bodies = (needs, some-mask, mask-byte, words-wrong, nodes-wrong, flag-over, bodies-end)
 
 -- 10 and 11 in their order
 

@@ -17,7 +17,7 @@ ghost use mathlib.Core.Path.{_≡_};
 ghost use mathlib.Core.List.{[]};
 ghost use Prim.Native.Nat.{_+_, _≤_};
 ghost use Rattle.sheet.specs.Limits.{mostActions, mostDelay};
-ghost use Rattle.table.specs.TableSheet.{tableLayout, says, numbersOk, belowAt, bytesBelow, bodiesOk, shapeAnswer, someFlagged, tableAnswer, masksOf, meaning};
+ghost use Rattle.table.specs.TableSheet.{tableLayout, says, numbersOk, bytesBelow, bodiesOk, shapeAnswer, someFlagged, tableAnswer, masksOf, meaning};
 
 // What an accepted reading carries: the start bytes and the places of the W and T bodies.
 pub struct TableLayout {
@@ -76,24 +76,20 @@ fn numbers_ok(size: usize, l: TableLayout) -> bool
     nodes_at(wide(l.highest) + 1, l.actions, l.delay) <= MOST_NODES
 }
 
-fn below_at(bound: usize, b: &[u8], k: usize) -> bool
-    ensures { λ r. ⌜ r ≡ belowAt bound (now (b .entry)) k ⌝ }
+// Is no byte above the top? The loop has no exit, so that it compiles to vector instructions: every call of the cabin reads its
+// whole sheet.
+fn bytes_below(top: u8, b: &[u8]) -> bool
+    ensures { λ r. ⌜ r ≡ bytesBelow (top + 1) (now (b .entry)) ⌝ }
 {
-    wide(byte(b, k)) < bound
-}
-
-// Is every byte below the bound?
-fn bytes_below(bound: usize, b: &[u8]) -> bool
-    ensures { λ r. ⌜ r ≡ bytesBelow bound (now (b .entry)) ⌝ }
-{
+    let mut all = true;
     let mut k: usize = 0;
     while k < b.len() {
-        if !below_at(bound, b, k) {
-            return false;
+        if top < b[k] {
+            all = false;
         }
         k += 1;
     }
-    true
+    all
 }
 
 // Check 11, the W and T bodies.
@@ -107,10 +103,10 @@ fn bodies_ok(l: TableLayout, w: &[u8], t: &[u8]) -> bool
     if t.len() != nodes_at(wide(l.highest) + 1, l.actions, l.delay) {
         return false;
     }
-    if !bytes_below(2, w) {
+    if !bytes_below(1, w) {
         return false;
     }
-    bytes_below(power(2, wide(l.actions)), t)
+    bytes_below((power(2, wide(l.actions)) - 1) as u8, t)
 }
 
 // Checks 10 and 11. Reading ends here where first words don't matter.

@@ -33,6 +33,12 @@ wide-requires-2 c κs = search bodies
 power-requires : tie.Need-power-requires
 power-requires c κs = search bodies
 
+sub-bytes-below : tie.Need-sub-bytes-below
+sub-bytes-below c = search bodies
+
+cast-bytes-below : tie.Need-cast-bytes-below
+cast-bytes-below c = search bodies
+
 bytes-below-requires-2 : tie.Need-bytes-below-requires-2
 bytes-below-requires-2 c κs = search bodies
 
@@ -53,5 +59,7 @@ bodies-ok-spec =
     returns-3
     wide-requires-2
     power-requires
+    sub-bytes-below
+    cast-bytes-below
     bytes-below-requires-2
     returns-4)
