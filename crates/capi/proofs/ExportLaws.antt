@@ -19,12 +19,12 @@ use Rattle.sheet.proofs.Accepted.{read-accepted, read-refused}
 use Rattle.solver.specs.Solving.{Solved, meaning}
 use Rattle.solver.specs.declared.solve.Solution.{Solution}
 use Rattle.solver.specs.declared.solve.Solution.the-variants as solutions
-use Rattle.table.specs.Making as making
-use Rattle.table.specs.Making.{Measured}
+use Rattle.maker.specs.Making as making
+use Rattle.maker.specs.Making.{Measured}
 use Rattle.table.specs.TableSheet as tables
 use Rattle.table.specs.TableSheet.{TableSheet, tableAnswer, masksIn, masksOf}
-use Rattle.table.specs.declared.making.Making.{Making}
-use Rattle.table.specs.declared.making.Making.the-variants as makings
+use Rattle.maker.specs.declared.making.Making.{Making}
+use Rattle.maker.specs.declared.making.Making.the-variants as makings
 use Rattle.table.specs.declared.reading.TableLayout.{TableLayout}
 use Rattle.table.specs.declared.reading.TableReading.{TableReading}
 use Rattle.table.specs.declared.reading.TableReading.the-variants as table-readings

@@ -9,7 +9,7 @@ use Rattle.sheet.specs.Form.{placedAt}
 use Rattle.sheet.specs.declared.reading.Layout.{Layout}
 use Rattle.solver.specs.Solving.{Solved}
 use Rattle.table.specs.TableSheet.{TableSheet}
-use Rattle.table.specs.Making.{Measured}
+use Rattle.maker.specs.Making.{Measured}
 
 -- the number of a refusal, 0 where the answer is accepted
 unfoldable pub numberFor : {A : Type 0} → Answer A → ℕ

@@ -1,14 +1,14 @@
 // Making sheets and reading a table sheet for C and Rust callers. Every function takes any bytes and any lengths.
+use maker::making::Making;
+use maker::making::make;
 use sheet::form::placed;
 use sheet::refusal::number;
-use table::making::Making;
-use table::making::make;
 use table::reading::TableReading;
 use table::reading::read;
 ghost use mathlib.Core.Path.{_≡_};
 ghost use lib.ListN.{length};
 ghost use Rattle.solver.specs.Solving.{solveAnswer, masksAfter, ranksLeft};
-ghost use Rattle.table.specs.Making.{makeAnswer, ifMade, outputAfter, measured};
+ghost use Rattle.maker.specs.Making.{makeAnswer, ifMade, outputAfter, measured};
 ghost use Rattle.table.specs.TableSheet.{tableAnswer};
 ghost use Rattle.capi.specs.Exported.{numberFor, sizeAfter, madeLosing, placeAfter};
 

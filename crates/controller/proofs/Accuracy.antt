@@ -17,9 +17,9 @@ use Rattle.theory.proofs.Ours.{ours-fits, ours-judged}
 use Rattle.sheet.specs.Reading.{delayOf}
 use Rattle.sheet.specs.Meant.{gameOf}
 use Rattle.table.specs.TableSheet.{TableSheet, decode, shapeAnswer, someFlagged, tableAnswer}
-use Rattle.table.specs.Making.{won, makeAnswer}
-use Rattle.table.proofs.Readable.{tableFor, made-says}
-use Rattle.table.proofs.Made.{making-won}
+use Rattle.maker.specs.Making.{won, makeAnswer}
+use Rattle.maker.proofs.Readable.{tableFor, made-says}
+use Rattle.maker.proofs.Made.{making-won}
 use Rattle.controller.specs.State.{opened}
 use Rattle.controller.specs.Controller.{openAnswer, observeAnswer, actAnswer}
 use Rattle.controller.specs.Accuracy.{Call, hear, ask, reply, Progress, begun, turnOf, callStep, runCalls, True, Truthful, Answered, GoesSafely, Accurate}

@@ -25,9 +25,9 @@ use Rattle.sheet.specs.Meant.{isLine, targetIn, movesIn, targetOf, movesOf, gam
 use Rattle.sheet.specs.Reading.{startOf, actionCount, delayOf, layoutOf, readAnswer}
 use Rattle.text.specs.Numbers.{bytesOf}
 use Rattle.solver.specs.Solving.{solveAnswer}
-use Rattle.table.specs.Writing.{entryOf, entriesFrom, bodies, sheetOf}
-use Rattle.table.proofs.Made.{making-won}
-use Rattle.table.specs.Making.{won, headerOf, tableBytes, winningSheet, losingSheet, madeOf, outputSize, makeAnswer}
+use Rattle.maker.specs.Writing.{entryOf, entriesFrom, bodies, sheetOf}
+use Rattle.maker.proofs.Made.{making-won}
+use Rattle.maker.specs.Making.{won, headerOf, tableBytes, winningSheet, losingSheet, madeOf, outputSize, makeAnswer}
 use Rattle.table.specs.TableSheet.{tableLayout, decode, tableNodes, numbersOk, belowAt, bytesBelow, bodiesOk, shapeAnswer, someFlagged, tableAnswer}
 use Rattle.controller.specs.State.{slotAt, heldAt, withinAt, heldOk, windowOk, stateOk, pushed, shiftedAt, shifted}
 use Rattle.controller.specs.Controller.{agrees, observeWith, wordOf, obey, commandIn, reported, actWith, openAnswer, observeAnswer, actAnswer}

@@ -14,9 +14,9 @@ use Rattle.sheet.specs.Limits.{width, mostNodes}
 use Rattle.sheet.specs.Reading.{delayOf}
 use Rattle.sheet.specs.Meant.{gameOf}
 use Rattle.solver.specs.Solving.{solveAnswer}
-use Rattle.table.specs.Writing.{part, sheetOf}
+use Rattle.maker.specs.Writing.{part, sheetOf}
 use Rattle.table.specs.TableSheet.{decode}
-use Rattle.table.specs.Making.{Made, won, lost, makeAnswer}
+use Rattle.maker.specs.Making.{Made, won, lost, makeAnswer}
 use Rattle.controller.specs.Accuracy.{Call, hear, ask, Outcome, accepts, gives, refuses, Progress, begun, reply, callStep, exactPlay}
 
 -- a game sheet from its S, P, C and U bodies

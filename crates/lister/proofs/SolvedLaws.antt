@@ -1,5 +1,5 @@
 -- What stands in the lent buffers after solving, and the text that it gives. Assumes nothing.
-use Prim.Native.Nat.{ℕ, _≤_}
+use Prim.Native.Nat.{ℕ, _*_, _/_, _≤_, _<_}
 use mathlib.Core.Path.{_≡_, sym, ap, _∙_}
 use mathlib.Core.List.{List}
 use native.Mathlib.Omega.{arith}
@@ -13,19 +13,20 @@ use Rattle.theory.proofs.Answer.{check-accepted, accepted-on}
 use Rattle.theory.proofs.Rounds.{final-length}
 use Rattle.theory.proofs.Region.{length-masks}
 use Rattle.theory.proofs.Waiting.{answer-least}
-use Rattle.sheet.specs.Checks.{nodesOf}
+use Rattle.sheet.specs.Checks.{powerTo, nodesOf}
 use Rattle.sheet.specs.Reading.{readAnswer, delayOf}
 use Rattle.sheet.specs.Meant.{gameOf}
 use Rattle.sheet.specs.declared.reading.Layout.{Layout}
 use Rattle.sheet.proofs.Accepted.{read-is, ranges, carries, arena-nodes}
 use Rattle.sheet.proofs.Legality.{legal-game}
+use Rattle.sheet.proofs.SizeLaws.{nodes-small}
 use Rattle.text.specs.Page.{Page, puts}
 use Rattle.text.specs.Lines.{refusedLine}
 use Rattle.solver.specs.Solving.{Solved, solveAnswer, solvedDelay, over, masksAfter, ranksLeft, meaning}
 use Rattle.solver.specs.declared.solve.Solution.{Solution}
 use Rattle.solver.specs.declared.solve.Solution.the-variants as solution
 use Rattle.lister.specs.Listing.{wonText, lostText, gameText, solvedText}
-use Rattle.lister.specs.Parts.{Small, flagsIn}
+use Rattle.lister.specs.Parts.{flagsIn}
 use Rattle.solver.proofs.Over.{over-first, over-room}
 use Rattle.lister.proofs.Words.{flags-are}
 
@@ -42,17 +43,18 @@ solved-is s m n a e =
     same : {x y : Solved} → accepted x ≡ accepted y → x ≡ y
     same q = cc
 
--- an accepted sheet's numbers are in their ranges, and at a lesser delay too
+-- an accepted sheet's numbers are small: the positions fit two bytes, and n nodes at a delay of at most the asked one are counted
+-- right
 
-pub small-at : (s : List ℕ) (l : Layout) (m : ℕ) → readAnswer s ≡ accepted l → m ≤ delayOf s → Small (l .positions .size) (l .actions) m
-small-at s l m e h =
+pub few-positions : (s : List ℕ) (l : Layout) → readAnswer s ≡ accepted l → l .positions .size < 65536
+few-positions s l e = omega (arith, ranges s (read-is s l e .0) .few-positions, carries s l e .positions-size)
+
+counted : (s : List ℕ) (l : Layout) (m n : ℕ) → readAnswer s ≡ accepted l → m ≤ delayOf s → n ≡ l .positions .size * powerTo (l .actions) (m / 2)
+    → n ≡ nodesOf (l .positions .size) (l .actions) m
+counted s l m n e h is =
     let r = ranges s (read-is s l e .0) in
-    let c = carries s l e in
-    record {
-      few-positions = rw (c .positions-size) (r .few-positions);
-      few-actions = rw (c .actions) (r .few-actions);
-      short-delay = omega (arith, r .short-delay);
-    }
+    let few : l .actions ≤ 8 = rw (carries s l e .actions) (r .few-actions) in
+    nodes-small (l .actions) m few (omega (arith, r .short-delay)) (l .positions .size) n is
 
 pub losing-within : (s : List ℕ) (l : Layout) (m : ℕ) → readAnswer s ≡ accepted l → answer (gameOf s) (delayOf s) ≡ losing m → m ≤ delayOf s
 losing-within s l m e f = answer-least (gameOf s) (legal-game s l e) (delayOf s) m f .asked
@@ -122,9 +124,12 @@ module _ (s : List ℕ) (mb rb : List ℕ) where
       unfolding ranksLeft solvedDelay
       won-ranks rs f = rw (carries s l read .delay) (f ∙ rw won-answer)
 
-      module _ (n : ℕ) (ms rs : List ℕ) (is : n ≡ nodesOf (l .positions .size) (l .actions) (l .delay)) where
+      module _ (n : ℕ) (ms rs : List ℕ) (is : n ≡ l .positions .size * powerTo (l .actions) (l .delay / 2)) where
+        won-nodes : n ≡ nodesOf (l .positions .size) (l .actions) (l .delay)
+        won-nodes = counted s l (l .delay) n read (omega (arith, carries s l read .delay)) is
+
         pub won-masks-room : ms ≡ masksAfter s solved mb → n ≤ length ms
-        won-masks-room f = rw (won-masks ms f) (masks-room s l (l .delay) read mb n is)
+        won-masks-room f = rw (won-masks ms f) (masks-room s l (l .delay) read mb n won-nodes)
 
         pub won-text : (p : Page) {q : Page} → ms ≡ masksAfter s solved mb → rs ≡ ranksLeft s solved rb
             → q ≡ puts p (wonText (l .delay) (l .positions .size) (l .actions) (flagsIn s rs) (take n ms))
@@ -133,7 +138,7 @@ module _ (s : List ℕ) (mb rb : List ℕ) where
         won-text p f g h =
             let c = carries s l read in
             let firstMasks : take n ms ≡ masks (arena (gameOf s) (l .delay)) =
-            rw (won-masks ms f) (masks-first s l (l .delay) read mb n is) in
+            rw (won-masks ms f) (masks-first s l (l .delay) read mb n won-nodes) in
             let firstRanks : take (arena (gameOf s) (l .delay) .nodes) rs ≡ finalRanks (arena (gameOf s) (l .delay)) =
             rw (won-ranks rs g) (ranks-first s l (l .delay) read rb _ (nodes s l (l .delay) read)) in
             let good = flags-are s l read rs (rw (c .delay) at firstRanks) in
@@ -147,16 +152,19 @@ module _ (s : List ℕ) (mb rb : List ℕ) where
       lost-answer : solved ≡ accepted (record { verdict = losing m; layout = x })
       lost-answer = sym told ∙ ap meaning e
 
-      pub lost-small : Small (l .positions .size) (l .actions) m
-      lost-small = small-at s l m read (losing-within s l m read (solved-is s (length mb) (length rb) _ lost-answer .1))
+      lost-early : m ≤ delayOf s
+      lost-early = losing-within s l m read (solved-is s (length mb) (length rb) _ lost-answer .1)
 
       lost-ranks : (rs : List ℕ) → rs ≡ ranksLeft s solved rb → rs ≡ over (finalRanks (arena (gameOf s) m)) rb
       unfolding ranksLeft solvedDelay
       lost-ranks rs f = f ∙ rw lost-answer
 
-      module _ (n : ℕ) (rs : List ℕ) (is : n ≡ nodesOf (l .positions .size) (l .actions) m) (f : rs ≡ ranksLeft s solved rb) where
+      module _ (n : ℕ) (rs : List ℕ) (is : n ≡ l .positions .size * powerTo (l .actions) (m / 2)) (f : rs ≡ ranksLeft s solved rb) where
+        lost-nodes : n ≡ nodesOf (l .positions .size) (l .actions) m
+        lost-nodes = counted s l m n read lost-early is
+
         pub lost-ranks-room : n ≤ length rs
-        lost-ranks-room = rw (lost-ranks rs f) (ranks-room s l m read rb n is)
+        lost-ranks-room = rw (lost-ranks rs f) (ranks-room s l m read rb n lost-nodes)
 
         pub lost-text : (p : Page) {q : Page} → q ≡ puts p (lostText (l .delay) (l .positions .size) (l .actions) m (take n rs))
             → q ≡ puts p (solvedText s solved)
@@ -164,7 +172,7 @@ module _ (s : List ℕ) (mb rb : List ℕ) where
         lost-text p h =
             let c = carries s l read in
             let firstRanks : take n rs ≡ finalRanks (arena (gameOf s) m) =
-            rw (lost-ranks rs f) (ranks-first s l m read rb n is) in
+            rw (lost-ranks rs f) (ranks-first s l m read rb n lost-nodes) in
             rw lost-answer
             (h ∙ ap (puts p) (lost-same m (c .delay) (sym (positions-are s l read)) (sym (actions-are s l read)) firstRanks))
 
@@ -172,7 +180,4 @@ module _ (s : List ℕ) (mb rb : List ℕ) where
 pub part-count : (n : ℕ) (xs : List ℕ) → n ≤ length xs → n ≡ length (take n xs)
 part-count n xs h = sym (length-take-le n xs h)
 
-pub asked-small : (s : List ℕ) (l : Layout) → readAnswer s ≡ accepted l → Small (l .positions .size) (l .actions) (l .delay)
-asked-small s l e = small-at s l (l .delay) e (omega (arith, carries s l e .delay))
-
-pub ruleset solving = (needs, refused-text, asked-small, won-masks-room, won-text, lost-small, lost-ranks-room, lost-text, part-count)
+pub ruleset solving = (needs, refused-text, few-positions, won-masks-room, won-text, lost-ranks-room, lost-text, part-count)

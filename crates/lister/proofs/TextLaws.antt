@@ -1,27 +1,16 @@
 -- The text of a game from its parts, as the code of src/lib.rt writes them. Assumes nothing.
-use Prim.Native.Nat.{ℕ, _+_, _*_, _/_, _^_, _≤_}
+use Prim.Native.Nat.{ℕ, _+_, _/_}
 use mathlib.Core.Path.{_≡_}
 use mathlib.Core.List.{List}
-use native.Mathlib.Omega.{arith}
 use lib.ListN.{take}
 use borrow.Author.Needs.{needs}
-use borrow.Author.Tests.{le-leb}
 use Rattle.theory.specs.Strategy.{initialLength}
-use Rattle.sheet.specs.Checks.{nodesOf, powerTo}
 use Rattle.text.specs.Page.{Page, puts}
 use Rattle.text.specs.Lines.{headLine, winningLine, losingLine, startLines, allowLines, rankLines}
 use Rattle.text.proofs.Page.{after}
 use Rattle.solver.specs.Flags.{flagsCount, flagsAfter}
 use Rattle.lister.specs.Listing.{wonText, lostText}
-use Rattle.lister.specs.Parts.{Small, blank, flagsIn}
-use Rattle.sheet.proofs.SizeLaws.{power-bound}
-
--- the number of nodes
-pub nodes-are : (p a d v w : ℕ) → Small p a d → v ≡ d → w ≡ powerTo a (v / 2) → p * w ≡ nodesOf p a d
-unfolding nodesOf powerTo
-nodes-are p a d v w s e f =
-    let few : a ^ (d / 2) ≤ 512 = power-bound a (d / 2) (s .few-actions) (omega (arith, s .short-delay)) in
-    rw (f, e, le-leb (a ^ (d / 2)) 65536 (omega arith))
+use Rattle.lister.specs.Parts.{blank, flagsIn}
 
 -- the lines of good first words
 pub words-are : (a d n : ℕ) (s ranks fs : List ℕ) (p : Page) {q : Page} {x y : ℕ} → x ≡ a → y ≡ d → n ≡ flagsCount s 512
@@ -49,4 +38,4 @@ lost-is d n a m rs p {q} {r} {t} e f g h i j =
     let ranks : t ≡ puts r (rankLines a (m / 2) rs) = rw (f, g) at j in
     after p _ _ head (after q _ _ line ranks)
 
-pub ruleset parts = (needs, nodes-are, words-are, won-is, lost-is)
+pub ruleset parts = (needs, words-are, won-is, lost-is)

@@ -1,15 +1,8 @@
 -- What the contracts of the listing's inner writers cite. Assumes nothing.
-use Prim.Native.Nat.{ℕ, _≤_}
+use Prim.Native.Nat.{ℕ}
 use mathlib.Core.List.{List}
 use lib.ListN.{take, replicate}
-use Rattle.sheet.specs.Limits.{mostPositions, mostActions, mostDelay}
 use Rattle.solver.specs.Flags.{flagsCount, flagsAfter}
-
--- numbers in document 01's ranges
-pub record Small (positions actions delay : ℕ) : Type 0 where
-  pub few-positions : positions ≤ mostPositions
-  pub few-actions : actions ≤ mostActions
-  pub short-delay : delay ≤ mostDelay
 
 -- the most first words: 8 actions, 3 in a word
 abbrev pub mostWords : ℕ

@@ -5,7 +5,7 @@ use sheet::reading::Layout;
 use sheet::reading::Reading;
 use sheet::reading::read;
 use sheet::reading::refusal_number;
-use sheet::size::power;
+use sheet::size::nodes_at;
 use solver::solve::Solution;
 use solver::solve::solve;
 use solver::words::initial_flags;
@@ -20,14 +20,13 @@ ghost use mathlib.Core.Path.{_≡_};
 ghost use lib.ListN.{length};
 ghost use Rattle.theory.specs.Answer.{accepted};
 ghost use Rattle.theory.specs.Strategy.{initialLength};
-ghost use Rattle.sheet.specs.Checks.{nodesOf};
 ghost use Rattle.sheet.specs.Reading.{readAnswer};
 ghost use Rattle.text.specs.Page.{page, puts};
 ghost use Rattle.text.specs.Lines.{startLines};
 ghost use Rattle.solver.specs.Solving.{solveAnswer, masksAfter, ranksLeft, over};
 ghost use Rattle.io.specs.Counts.{Counts};
 ghost use Rattle.lister.specs.Listing.{wonText, lostText, programText, solvedText, textWith, masksWith, ranksWith};
-ghost use Rattle.lister.specs.Parts.{Small, flagsIn};
+ghost use Rattle.lister.specs.Parts.{flagsIn};
 
 const MOST_INPUT: usize = 16384;
 
@@ -36,13 +35,6 @@ const MOST_WORDS: usize = 512;
 
 // The largest text has 463,911 bytes (proofs/ProgramLaws.antt, fits).
 const MOST_TEXT: usize = 464000;
-
-fn nodes_at(positions: usize, actions: u8, delay: u8) -> usize
-    requires { ⌜ Small positions actions delay ⌝ }
-    ensures { λ r. ⌜ r ≡ nodesOf positions actions delay ⌝ }
-{
-    positions * power(actions, wide(delay) / 2)
-}
 
 // A line for each good first word, by the ranks at the asked delay.
 fn put_words(out: &mut [u8], at: usize, sheet: &[u8], l: Layout, ranks: &[u16]) -> usize
@@ -87,15 +79,16 @@ fn put_game(out: &mut [u8], sheet: &[u8], l: Layout, masks: &mut [u8], ranks: &m
     ensures masks { λ r. ⌜ now (masks .exit) ≡ masksAfter (now (sheet .entry)) (solveAnswer (now (sheet .entry)) (length (now (masks .entry))) (length (now (ranks .entry)))) (now (masks .entry)) ⌝ }
     ensures ranks { λ r. ⌜ now (ranks .exit) ≡ ranksLeft (now (sheet .entry)) (solveAnswer (now (sheet .entry)) (length (now (masks .entry))) (length (now (ranks .entry)))) (now (ranks .entry)) ⌝ }
 {
+    let positions = l.positions.size as u16;
     let solution = solve(sheet, masks, ranks);
     match solution {
         Solution::Refused(number) => put_refused(out, 0, wide(number)),
         Solution::Winning(_) => {
-            let nodes = nodes_at(l.positions.size, l.actions, l.delay);
+            let nodes = nodes_at(positions, l.actions, l.delay);
             put_won(out, sheet, l, &masks[..nodes], ranks)
         }
         Solution::Losing(m, _) => {
-            let nodes = nodes_at(l.positions.size, l.actions, m);
+            let nodes = nodes_at(positions, l.actions, m);
             put_lost(out, l, m, &ranks[..nodes])
         }
     }

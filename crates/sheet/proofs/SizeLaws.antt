@@ -1,6 +1,6 @@
--- Powers that are cut off, and check 7, as the code of src/size.rt finds them. Assumes nothing.
+-- Powers that are cut off, nodes, first words and check 7, as the code of src/size.rt finds them. Assumes nothing.
 use Prim.Native.Nat.{ℕ, suc, _+_, _*_, _/_, _^_, _≤_, _<_}
-use mathlib.Core.Path.{_≡_, sym, _∙_}
+use mathlib.Core.Path.{_≡_, sym, _∙_, ap}
 use mathlib.Core.Bool.{true, false, cond}
 use mathlib.Core.Logic.{⊎-elim}
 use mathlib.Core.List.{List}
@@ -11,6 +11,7 @@ use lib.Dec.{leb}
 use lib.ListN.{length}
 use borrow.Author.Needs.{needs}
 use borrow.Author.Tests.{le-leb, lt-leb, leb-false}
+use Rattle.theory.specs.Strategy.{initialLength}
 use Rattle.theory.proofs.Fold.{bool, below?}
 use Rattle.sheet.specs.Checks.{powerTo, nodesOf, sizeOk}
 
@@ -67,9 +68,24 @@ cut-same n x =
     (below? 0 n)))
     (bool (leb x 65536))
 
-pub size-is : (p : List ℕ) (a d v w : ℕ) → v ≡ d → w ≡ powerTo a (v / 2) → leb (length p * w) 16384 ≡ sizeOk p a d
+pub size-is : (p : List ℕ) (a d n : ℕ) → n ≡ length p * powerTo a (d / 2) → leb n 16384 ≡ sizeOk p a d
 unfolding sizeOk nodesOf powerTo
-size-is p a d v w e f = rw (f, e) (cut-same (length p) (a ^ (d / 2)))
+size-is p a d n e = rw e (cut-same (length p) (a ^ (d / 2)))
+
+-- so many positions as two bytes can say
+pub nodes-most : {p w : ℕ} → p < 65536 → w ≤ 65536 → p * w ≤ 65536 * 65536
+nodes-most h i = mul-le-mul {n₂ = 65536} (le-of-lt h) i
+
+-- nodes and first words, v the delay as a number and w a power
+
+module _ (a d v w : ℕ) (ev : v ≡ d) where
+  pub nodes-is : (p : ℕ) → w ≡ powerTo a (v / 2) → p * w ≡ p * powerTo a (d / 2)
+  nodes-is p e = rw (e, ev)
+
+  pub words-is : w ≡ powerTo a ((v + 1) / 2) → w ≡ powerTo a (initialLength d)
+  words-is e = rw (e, ev)
+
+pub ruleset sizes = (needs, size-is, nodes-is, nodes-most, words-is)
 
 -- at most 8 actions, 3 in a word
 pub power-bound : (a n : ℕ) → a ≤ 8 → n ≤ 3 → a ^ n ≤ 512
@@ -79,3 +95,19 @@ power-bound a n h i = le-trans (pow-le-pow-left h n) (pow-le-pow-right (omega ar
 pub small-power : (a n : ℕ) → a ^ n ≤ 512 → powerTo a n ≡ a ^ n
 unfolding powerTo
 small-power a n h = rw (le-leb (a ^ n) 65536 (omega arith))
+
+-- so at most 8 actions and a delay of at most 6 give document 01's numbers; n nodes and w first words, as the code counts them
+
+module _ (a d : ℕ) (few : a ≤ 8) (short : d ≤ 6) where
+  pub nodes-small : (p n : ℕ) → n ≡ p * powerTo a (d / 2) → n ≡ nodesOf p a d
+  unfolding nodesOf
+  nodes-small p n e = e ∙ ap (λ x. p * x) (small-power a (d / 2) (power-bound a (d / 2) few (omega arith)))
+
+  pub nodes-few : (p n : ℕ) → p ≤ 256 → n ≡ p * powerTo a (d / 2) → n ≤ 131072
+  unfolding nodesOf
+  nodes-few p n h e = rw (nodes-small p n e) (mul-le-mul h (power-bound a (d / 2) few (omega arith)))
+
+  pub words-small : (w : ℕ) → w ≡ powerTo a (initialLength d) → w ≡ a ^ initialLength d
+  words-small w e = e ∙ small-power a (initialLength d) (power-bound a (initialLength d) few (omega arith))
+
+pub ruleset small-sizes = (needs, nodes-small, nodes-few, words-small)

@@ -1,10 +1,11 @@
-// How many words and nodes there are: check 7.
+// How many nodes and first words there are, and check 7.
 use crate::form::wide;
 use crate::limits::MOST_NODES;
 use crate::limits::MOST_POWER;
 ghost use mathlib.Core.Path.{_≡_};
-ghost use Prim.Native.Nat.{_≤_};
+ghost use Prim.Native.Nat.{_*_, _/_, _≤_};
 ghost use lib.ListN.{length};
+ghost use Rattle.theory.specs.Strategy.{initialLength};
 ghost use Rattle.sheet.specs.Limits.{mostPositions, mostPower};
 ghost use Rattle.sheet.specs.Checks.{powerTo, sizeOk};
 
@@ -24,11 +25,23 @@ pub fn power(base: u8, exponent: usize) -> usize
     r
 }
 
+// How many nodes there are, and how many first words; the power cut off as above.
+pub fn nodes_at(positions: u16, actions: u8, delay: u8) -> usize
+    ensures { λ r. ⌜ (r ≡ positions * powerTo actions (delay / 2)) × (r ≤ mostPower * mostPower) ⌝ }
+{
+    positions as usize * power(actions, wide(delay) / 2)
+}
+
+pub fn words_at(actions: u8, delay: u8) -> usize
+    ensures { λ r. ⌜ (r ≡ powerTo actions (initialLength delay)) × (r ≤ mostPower) ⌝ }
+{
+    power(actions, (wide(delay) + 1) / 2)
+}
+
 // Check 7.
 pub(crate) fn size_ok(p: &[u8], actions: u8, delay: u8) -> bool
     requires { ⌜ length (now p) ≤ mostPositions ⌝ }
     ensures { λ r. ⌜ r ≡ sizeOk (now (p .entry)) actions delay ⌝ }
 {
-    let words = power(actions, wide(delay) / 2);
-    p.len() * words <= MOST_NODES
+    nodes_at(p.len() as u16, actions, delay) <= MOST_NODES
 }

@@ -1,6 +1,6 @@
 -- Checks 10 to 12 and the masks, as the code of src/reading.rt finds them: the checks before have passed, and one fails.
 -- Assumes nothing.
-use Prim.Native.Nat.{ℕ, _+_, _-_, _^_, _≤_, _<_}
+use Prim.Native.Nat.{ℕ, _+_, _-_, _*_, _/_, _^_, _≤_, _<_}
 use mathlib.Core.Path.{_≡_, refl, sym, _∙_, ap}
 use mathlib.Core.Bool.{Bool, true, false, not}
 use mathlib.Core.Logic.{⊎-elim}
@@ -27,7 +27,7 @@ use Rattle.table.specs.TableSheet.{TableSheet, tableLetters, tableLayout
 use Rattle.table.specs.declared.reading.TableLayout.{TableLayout}
 use Rattle.table.specs.declared.reading.TableReading.{TableReading}
 use Rattle.table.specs.declared.reading.TableReading.the-variants.{Accepted, Refused}
-use Rattle.sheet.proofs.SizeLaws.{small-power}
+use Rattle.sheet.proofs.SizeLaws.{small-power, nodes-small, words-small}
 
 -- the layout
 
@@ -64,10 +64,10 @@ module _ (size : ℕ) (l : TableLayout) where
       sym (both-false _ _ (both-false _ _ (both-false _ _ (both-false _ _ (both-none _ _ (lt-leb (l .start) (l .highest) e))))))
 
   pub numbers-end : (v r : ℕ) → size ≡ 4 → 1 ≤ l .actions → l .actions ≤ 8 → l .delay ≤ 6 → l .start ≤ l .highest → v ≡ l .highest
-      → r ≡ nodesOf (v + 1) (l .actions) (l .delay) → leb r 16384 ≡ numbersOk size (says l [] [])
+      → r ≡ (v + 1) * powerTo (l .actions) (l .delay / 2) → leb r 16384 ≡ numbersOk size (says l [] [])
   unfolding numbersOk tableNodes
   numbers-end v r e a b d h g n =
-      ap (λ m. leb m 16384) (rw g at n)
+      ap (λ m. leb m 16384) (rw g at (nodes-small (l .actions) (l .delay) b d (v + 1) r n))
       ∙ sym
       (both-second _ _ (eq-eqb _ _ e)
       ∙ both-second _ _ (le-leb _ _ a)
@@ -121,15 +121,21 @@ module _ (a n y : ℕ) (few : n ≤ 8) (ea : a ≡ n) (ey : y ≡ powerTo 2 a) w
 
 -- 11, the W and T bodies; v is the highest position as a number, x and n what the lengths must be, r a test's result
 
-module _ (l : TableLayout) (w t : List ℕ) (x : ℕ) (ex : x ≡ l .actions ^ initialLength (l .delay)) where
+module _ (l : TableLayout) (w t : List ℕ) (few : l .actions ≤ 8) (short : l .delay ≤ 6) (x : ℕ)
+    (ex : x ≡ powerTo (l .actions) (initialLength (l .delay))) where
+  words-are : x ≡ l .actions ^ initialLength (l .delay)
+  words-are = words-small (l .actions) (l .delay) few short x ex
+
   pub words-wrong : (length w ≡ x → ⊥) → false ≡ bodiesOk (says l w t)
   unfolding bodiesOk
-  words-wrong e = sym (both-none _ _ (ne-eqb _ _ (λ f. e (f ∙ sym ex))))
+  words-wrong e = sym (both-none _ _ (ne-eqb _ _ (λ f. e (f ∙ sym words-are))))
 
-  module _ (v n : ℕ) (ev : v ≡ l .highest) (en : n ≡ nodesOf (v + 1) (l .actions) (l .delay)) where
+  module _ (v n : ℕ) (ev : v ≡ l .highest) (en : n ≡ (v + 1) * powerTo (l .actions) (l .delay / 2)) where
     nodes-are : n ≡ tableNodes (says l w t)
     unfolding tableNodes
-    nodes-are = en ∙ ap (λ h. nodesOf (h + 1) (l .actions) (l .delay)) ev
+    nodes-are =
+        nodes-small (l .actions) (l .delay) few short (v + 1) n en
+        ∙ ap (λ h. nodesOf (h + 1) (l .actions) (l .delay)) ev
 
     pub nodes-wrong : (length t ≡ n → ⊥) → false ≡ bodiesOk (says l w t)
     unfolding bodiesOk
@@ -140,16 +146,16 @@ module _ (l : TableLayout) (w t : List ℕ) (x : ℕ) (ex : x ≡ l .actions ^ i
       unfolding bodiesOk
       flag-over g = sym (both-false _ _ (both-false _ _ (both-none _ _ (failed er g))))
 
-      pub bodies-end : (a y : ℕ) (q : Bool) → l .actions ≤ 8 → length w ≡ x → length t ≡ n → not r ≡ false → a ≡ l .actions
+      pub bodies-end : (a y : ℕ) (q : Bool) → length w ≡ x → length t ≡ n → not r ≡ false → a ≡ l .actions
           → y ≡ powerTo 2 a → q ≡ bytesBelow (y - 1 + 1) t → q ≡ bodiesOk (says l w t)
       unfolding bodiesOk
-      bodies-end a y q few ew et g ea ey eq =
+      bodies-end a y q ew et g ea ey eq =
           let is : y ≡ 2 ^ l .actions = masks-are a (l .actions) y few ea ey in
           let top : y - 1 + 1 ≡ 2 ^ l .actions = omega (arith, pow-pos (l .actions)) in
           eq
           ∙ ap (λ b. bytesBelow b t) top
           ∙ sym
-          (both-second _ _ (eq-eqb _ _ (ew ∙ ex)) ∙ both-second _ _ (eq-eqb _ _ (et ∙ nodes-are)) ∙ both-second _ _ (passed er g))
+          (both-second _ _ (eq-eqb _ _ (ew ∙ words-are)) ∙ both-second _ _ (eq-eqb _ _ (et ∙ nodes-are)) ∙ both-second _ _ (passed er g))
 
 pub ruleset bodies = (needs, some-mask, mask-byte, words-wrong, nodes-wrong, flag-over, bodies-end)
 

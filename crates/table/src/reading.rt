@@ -1,6 +1,4 @@
 // Reading a table sheet: document 01's refusals 10 to 12, in the order written.
-use crate::sizes::nodes_at;
-use crate::sizes::words_at;
 use sheet::form::Place;
 use sheet::form::body;
 use sheet::form::byte;
@@ -12,7 +10,9 @@ use sheet::limits::MOST_ACTIONS;
 use sheet::limits::MOST_DELAY;
 use sheet::limits::MOST_NODES;
 use sheet::refusal::Refusal;
+use sheet::size::nodes_at;
 use sheet::size::power;
+use sheet::size::words_at;
 ghost use mathlib.Core.Path.{_≡_};
 ghost use mathlib.Core.List.{[]};
 ghost use Prim.Native.Nat.{_+_, _≤_};
@@ -73,7 +73,7 @@ fn numbers_ok(size: usize, l: TableLayout) -> bool
     if l.highest < l.start {
         return false;
     }
-    nodes_at(wide(l.highest) + 1, l.actions, l.delay) <= MOST_NODES
+    nodes_at((wide(l.highest) + 1) as u16, l.actions, l.delay) <= MOST_NODES
 }
 
 // Is no byte above the top? The loop has no exit, so that it compiles to vector instructions: every call of the cabin reads its
@@ -100,7 +100,7 @@ fn bodies_ok(l: TableLayout, w: &[u8], t: &[u8]) -> bool
     if w.len() != words_at(l.actions, l.delay) {
         return false;
     }
-    if t.len() != nodes_at(wide(l.highest) + 1, l.actions, l.delay) {
+    if t.len() != nodes_at((wide(l.highest) + 1) as u16, l.actions, l.delay) {
         return false;
     }
     if !bytes_below(1, w) {

@@ -15,6 +15,9 @@ wide-requires c κs = search bodies
 add-nodes-at : tie.Need-add-nodes-at
 add-nodes-at c = search bodies
 
+cast-nodes-at : tie.Need-cast-nodes-at
+cast-nodes-at c = search bodies
+
 nodes-at-requires : tie.Need-nodes-at-requires
 nodes-at-requires c κs = search bodies
 
@@ -53,6 +56,7 @@ bodies-ok-spec =
     returns
     wide-requires
     add-nodes-at
+    cast-nodes-at
     nodes-at-requires
     returns-2
     bytes-below-requires

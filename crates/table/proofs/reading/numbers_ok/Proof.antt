@@ -24,6 +24,9 @@ wide-requires c κs = search numbers
 add-nodes-at : tie.Need-add-nodes-at
 add-nodes-at c = search numbers
 
+cast-nodes-at : tie.Need-cast-nodes-at
+cast-nodes-at c = search numbers
+
 nodes-at-requires : tie.Need-nodes-at-requires
 nodes-at-requires c κs = search numbers
 
@@ -41,5 +44,6 @@ numbers-ok-spec =
     returns-5
     wide-requires
     add-nodes-at
+    cast-nodes-at
     nodes-at-requires
     returns-6)

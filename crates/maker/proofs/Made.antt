@@ -1,0 +1,116 @@
+-- What an accepted making says: the sheet is the game's own, a winning one is readable, and it fits the output that check 9
+-- asks for. Assumes nothing.
+use Prim.Native.Nat.{ℕ, _+_, _*_, _/_, _≤_}
+use mathlib.Core.Path.{_≡_, sym, ap, _∙_}
+use mathlib.Core.Bool.{true}
+use mathlib.Core.List.{List, [], _∷_}
+use native.Mathlib.Omega.{arith}
+use native.Mathlib.Nat.{mul-le-mul-left, pow-le-pow-right}
+use lib.ListN.{length}
+use borrow.Author.Tests.{leb-true}
+use Rattle.theory.specs.Answer.{accepted}
+use Rattle.theory.specs.Game.{Game, Legal}
+use Rattle.theory.specs.Rounds.{finalRanks}
+use Rattle.theory.specs.Delay.{Verdict, wins, losing, winning, words, arena, answer}
+use Rattle.theory.proofs.Answer.{check-accepted, accepted-on, accepted-same}
+use Rattle.theory.proofs.Rounds.{final-length}
+use Rattle.theory.proofs.Tables.{legal-actions}
+use Rattle.sheet.specs.Form.{entrySize}
+use Rattle.sheet.specs.Reading.{readAnswer, delayOf}
+use Rattle.sheet.specs.Meant.{gameOf}
+use Rattle.sheet.proofs.Accepted.{read-is, ranges, arena-nodes}
+use Rattle.sheet.proofs.Legality.{legal-game}
+use Rattle.sheet.specs.declared.reading.Layout.{Layout}
+use Rattle.text.specs.Numbers.{shortsText}
+use Rattle.text.proofs.Numbers.{length-shorts}
+use Rattle.solver.specs.Solving.{solveAnswer}
+use Rattle.maker.specs.Writing.{part}
+use Rattle.table.specs.TableSheet.{tableAnswer}
+use Rattle.maker.specs.Making.{headerOf, rankBytes, winningSheet, losingSheet, Made, won, madeOf, outputSize, makeAnswer}
+use Rattle.theory.proofs.Waiting.{wins-winning}
+use Rattle.maker.proofs.Sheets.{before, length-sheet}
+use Rattle.maker.proofs.Readable.{Ranged, tableFor, winning-length, made-readable}
+
+-- an accepted game sheet's numbers
+pub sheet-ranged : (s : List ℕ) (l : Layout) → readAnswer s ≡ accepted l → Ranged (gameOf s) (delayOf s)
+unfolding gameOf
+sheet-ranged s l e =
+    let r = ranges s (read-is s l e .0) in
+    record {
+      legal = legal-game s l e;
+      few-positions = r .few-positions;
+      few-actions = r .few-actions;
+      short-delay = r .short-delay;
+      few-nodes = rw (arena-nodes s (delayOf s)) (r .few-nodes);
+    }
+
+-- an accepted making that won
+pub record Won (s t : List ℕ) : Type 0 where
+  pub ranged : Ranged (gameOf s) (delayOf s)
+  pub wins : winning (gameOf s) (delayOf s) ≡ true
+  pub sheet : t ≡ winningSheet (gameOf s) (delayOf s)
+  pub reads : tableAnswer t ≡ accepted (tableFor (gameOf s) (delayOf s))
+
+made-won : (G : Game) (d : ℕ) (v : Verdict) (t : List ℕ) → madeOf G d v ≡ won t → (v ≡ wins) × (t ≡ winningSheet G d)
+unfolding madeOf
+made-won G d wins t e = (cc, cc)
+made-won G d (losing m) t e = let z : _≡_ {A = ℕ} 0 1 = cc in absurd (omega arith)
+
+-- the parts of an accepted making
+pub record Making (s : List ℕ) (outputRoom : ℕ) (x : Made) : Type 0 where
+  pub layout : Layout
+  pub reads : readAnswer s ≡ accepted layout
+  pub made : x ≡ madeOf (gameOf s) (delayOf s) (answer (gameOf s) (delayOf s))
+  pub room : outputSize (gameOf s) (delayOf s) ≤ outputRoom
+
+module _ (s : List ℕ) (masksRoom ranksRoom outputRoom : ℕ) where
+  pub making : (x : Made) → makeAnswer s masksRoom ranksRoom outputRoom ≡ accepted x → Making s outputRoom x
+  unfolding makeAnswer solveAnswer
+  making x e =
+      let a = accepted-on _ _ e in
+      let b = accepted-on _ _ (a .1) in
+      let c = check-accepted _ _ _ (a .2) in
+      let v = check-accepted _ _ _ (b .2) in
+      record {
+        layout = b .0;
+        reads = b .1;
+        made =
+            sym (accepted-same (c .1))
+            ∙ ap (λ y. madeOf (gameOf s) (delayOf s) (y .verdict)) (sym (accepted-same (v .1)));
+        room = leb-true _ _ (c .0);
+      }
+
+  pub making-won : (t : List ℕ) → makeAnswer s masksRoom ranksRoom outputRoom ≡ accepted (won t) → Won s t
+  making-won t e =
+      let m = making (won t) e in
+      let r = sheet-ranged s (m .layout) (m .reads) in
+      let w = made-won (gameOf s) (delayOf s) (answer (gameOf s) (delayOf s)) t (sym (m .made)) in
+      let v = wins-winning (gameOf s) (delayOf s) (w .0) in
+      record {
+        ranged = r;
+        wins = v;
+        sheet = w .1;
+        reads = ap tableAnswer (w .1) ∙ made-readable (gameOf s) (delayOf s) r v;
+      }
+
+-- the made sheets fit
+
+pub losing-length : (G : Game) (m : ℕ) → length (losingSheet G m) ≡ 14 + 2 * arena G m .nodes
+unfolding losingSheet rankBytes entrySize before headerOf
+losing-length G m =
+    length-sheet 2 (part 83 (headerOf G m) ∷ part 82 (shortsText (finalRanks (arena G m))) ∷ [])
+    ∙ rw (length-shorts (finalRanks (arena G m)), final-length (arena G m)) (omega arith)
+
+nodes-more : (G : Game) → Legal G → (m d : ℕ) → m ≤ d → arena G m .nodes ≤ arena G d .nodes
+unfolding arena words
+nodes-more G legal m d h =
+    let half : m / 2 ≤ d / 2 = omega arith in
+    mul-le-mul-left (G .positions) (pow-le-pow-right (legal-actions G legal) half)
+
+pub losing-fits : (G : Game) → Legal G → (m d : ℕ) → m ≤ d → length (losingSheet G m) ≤ outputSize G d
+unfolding outputSize
+losing-fits G legal m d h = rw (losing-length G m) (omega (arith, nodes-more G legal m d h))
+
+pub winning-fits : (G : Game) (d : ℕ) → Ranged G d → length (winningSheet G d) ≤ outputSize G d
+unfolding outputSize
+winning-fits G d r = rw (winning-length G d r) (omega arith)

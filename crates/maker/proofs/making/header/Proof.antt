@@ -1,0 +1,18 @@
+-- `header` meets its contract: the bytes are written as the definition has them. Assumes nothing.
+use borrow.Author.Needs.{needs}
+use Rattle.maker.specs.Making.{headerBytes}
+use Rattle.maker.proofs.making.header.Statement.{statement}
+use Rattle.maker.proofs.making.header.Tie as tie
+
+sub-highest : tie.Need-sub-highest
+sub-highest c = search needs
+
+cast-highest : tie.Need-cast-highest
+cast-highest c = search needs
+
+returns : tie.Need-returns
+unfolding headerBytes
+returns c = search needs
+
+pub header-spec : {M : Type 1} → statement M
+header-spec = tie.close (tie.spec sub-highest cast-highest returns)

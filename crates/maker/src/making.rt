@@ -1,0 +1,124 @@
+// Making a sheet from a game sheet: document 01's refusals 1 to 9, then the table sheet or the rank sheet.
+use crate::writing::put_ranks;
+use crate::writing::put_table;
+use sheet::reading::Layout;
+use sheet::reading::Reading;
+use sheet::reading::read;
+use sheet::reading::refusal_number;
+use sheet::refusal::Refusal;
+use sheet::refusal::number;
+use sheet::size::nodes_at;
+use sheet::size::words_at;
+use solver::solve::Solution;
+use solver::solve::solve;
+use solver::words::initial_flags;
+ghost use mathlib.Core.Path.{_≡_};
+ghost use Prim.Native.Nat.{_+_, _≤_, _^_};
+ghost use lib.ListN.{length, take};
+ghost use Rattle.theory.specs.Strategy.{initialLength};
+ghost use Rattle.sheet.specs.Limits.{mostDelay};
+ghost use Rattle.sheet.specs.Checks.{nodesOf};
+ghost use Rattle.sheet.specs.Reading.{delayOf};
+ghost use Rattle.sheet.specs.Meant.{gameOf};
+ghost use Rattle.text.specs.Page.{page, puts};
+ghost use Rattle.solver.specs.Solving.{solveAnswer, masksAfter, ranksLeft};
+ghost use Rattle.maker.specs.Making.{headerBytes, rankBytes, winningSheet, shortOf, makeAnswer, ifMade, outputAfter, measured, meaning, Small, Ready, Solved};
+
+// The contents and the S body of a table sheet.
+const TABLE_START: usize = 19;
+
+// The most first words: three actions out of eight.
+const MOST_WORDS: usize = 512;
+
+// The length of the sheet that was written, with the losing delay where it is a rank sheet.
+pub enum Making {
+    Winning(usize),
+    Losing(u8, usize),
+    Refused(u8),
+}
+
+// Checks 8 and 9: the refusal's number, 0 where both pass.
+fn short_buffer(l: Layout, masks: usize, ranks: usize, out: usize) -> u8
+    requires { ⌜ Small l ⌝ }
+    ensures { λ r. ⌜ r ≡ shortOf (nodesOf (l .positions .size) (l .actions) (l .delay)) (l .actions ^ initialLength (l .delay)) masks ranks out ⌝ }
+{
+    let positions = l.positions;
+    let nodes = nodes_at(positions.size as u16, l.actions, l.delay);
+    if masks < nodes {
+        return number(Refusal::Buffers);
+    }
+    if ranks < nodes {
+        return number(Refusal::Buffers);
+    }
+    if out < TABLE_START + words_at(l.actions, l.delay) + 2 * nodes {
+        return number(Refusal::Output);
+    }
+    0
+}
+
+// The S body at delay m.
+fn header(l: Layout, m: u8) -> [u8; 4]
+    requires { ⌜ Small l ⌝ }
+    ensures { λ r. ⌜ r ≡ headerBytes l m ⌝ }
+{
+    let positions = l.positions;
+    let highest = (positions.size - 1) as u8;
+    [l.start, l.actions, m, highest]
+}
+
+// The rank sheet at delay m.
+fn write_ranks(l: Layout, m: u8, ranks: &[u16], out: &mut [u8]) -> usize
+    requires { ⌜ (Small l) × (m ≤ mostDelay) × (nodesOf (l .positions .size) (l .actions) m ≤ length (now ranks)) ⌝ }
+    ensures { λ r. ⌜ page (now (out .exit)) r ≡ puts (page (now (out .entry)) 0) (rankBytes (headerBytes l m) (take (nodesOf (l .positions .size) (l .actions) m) (now (ranks .entry)))) ⌝ }
+{
+    let positions = l.positions;
+    let nodes = nodes_at(positions.size as u16, l.actions, m);
+    let h = header(l, m);
+    put_ranks(out, &h, &ranks[..nodes])
+}
+
+// The table sheet at the asked delay.
+fn write_table(sheet: &[u8], l: Layout, masks: &[u8], ranks: &[u16], out: &mut [u8]) -> usize
+    requires { ⌜ Solved (now sheet) l (now masks) (now ranks) ⌝ }
+    ensures { λ r. ⌜ page (now (out .exit)) r ≡ puts (page (now (out .entry)) 0) (winningSheet (gameOf (now (sheet .entry))) (delayOf (now (sheet .entry)))) ⌝ }
+{
+    let positions = l.positions;
+    let nodes = nodes_at(positions.size as u16, l.actions, l.delay);
+    let mut flags = [0u8; MOST_WORDS];
+    let words = initial_flags(sheet, &ranks[..nodes], &mut flags);
+    let h = header(l, l.delay);
+    put_table(out, &h, &flags[..words], &masks[..nodes])
+}
+
+// Solving and writing, once every check has passed.
+fn make_read(sheet: &[u8], l: Layout, masks: &mut [u8], ranks: &mut [u16], out: &mut [u8]) -> Making
+    requires { ⌜ Ready (now sheet) l (length (now masks)) (length (now ranks)) (length (now out)) ⌝ }
+    ensures answer { λ r. ⌜ meaning r ≡ measured (makeAnswer (now (sheet .entry)) (length (now (masks .entry))) (length (now (ranks .entry))) (length (now (out .entry)))) ⌝ }
+    ensures masks { λ r. ⌜ now (masks .exit) ≡ masksAfter (now (sheet .entry)) (solveAnswer (now (sheet .entry)) (length (now (masks .entry))) (length (now (ranks .entry)))) (now (masks .entry)) ⌝ }
+    ensures ranks { λ r. ⌜ now (ranks .exit) ≡ ranksLeft (now (sheet .entry)) (solveAnswer (now (sheet .entry)) (length (now (masks .entry))) (length (now (ranks .entry)))) (now (ranks .entry)) ⌝ }
+    ensures output { λ r. ⌜ now (out .exit) ≡ outputAfter (makeAnswer (now (sheet .entry)) (length (now (masks .entry))) (length (now (ranks .entry))) (length (now (out .entry)))) (now (out .entry)) ⌝ }
+{
+    let solution = solve(sheet, masks, ranks);
+    match solution {
+        Solution::Winning(_) => Making::Winning(write_table(sheet, l, masks, ranks, out)),
+        Solution::Losing(m, _) => Making::Losing(m, write_ranks(l, m, ranks, out)),
+        Solution::Refused(n) => Making::Refused(n),
+    }
+}
+
+pub fn make(sheet: &[u8], masks: &mut [u8], ranks: &mut [u16], out: &mut [u8]) -> Making
+    ensures answer { λ r. ⌜ meaning r ≡ measured (makeAnswer (now (sheet .entry)) (length (now (masks .entry))) (length (now (ranks .entry))) (length (now (out .entry)))) ⌝ }
+    ensures masks { λ r. ⌜ now (masks .exit) ≡ ifMade (makeAnswer (now (sheet .entry)) (length (now (masks .entry))) (length (now (ranks .entry))) (length (now (out .entry)))) (now (masks .entry)) (masksAfter (now (sheet .entry)) (solveAnswer (now (sheet .entry)) (length (now (masks .entry))) (length (now (ranks .entry)))) (now (masks .entry))) ⌝ }
+    ensures ranks { λ r. ⌜ now (ranks .exit) ≡ ifMade (makeAnswer (now (sheet .entry)) (length (now (masks .entry))) (length (now (ranks .entry))) (length (now (out .entry)))) (now (ranks .entry)) (ranksLeft (now (sheet .entry)) (solveAnswer (now (sheet .entry)) (length (now (masks .entry))) (length (now (ranks .entry)))) (now (ranks .entry))) ⌝ }
+    ensures output { λ r. ⌜ now (out .exit) ≡ outputAfter (makeAnswer (now (sheet .entry)) (length (now (masks .entry))) (length (now (ranks .entry))) (length (now (out .entry)))) (now (out .entry)) ⌝ }
+{
+    let reading = read(sheet);
+    let Reading::Accepted(l) = reading else {
+        return Making::Refused(refusal_number(reading));
+    };
+    let refused = short_buffer(l, masks.len(), ranks.len(), out.len());
+    if refused != 0 {
+        return Making::Refused(refused);
+    }
+    make_read(sheet, l, masks, ranks, out)
+}
