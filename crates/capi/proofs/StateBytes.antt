@@ -1,5 +1,5 @@
 -- A state's bytes: encoding and decoding gives the state back, and calls over bytes are the calls of the controller's claim
--- (accuracy, in controller/proofs/Accuracy.antt). Assumes nothing.
+-- (accuracy, in accuracy/proofs/Accuracy.antt). Assumes nothing.
 use Prim.Native.Nat.{ℕ, _-_, _*_, _/_, _%_, _≤_, _<_}
 use mathlib.Core.Path.{_≡_, refl, _∙_, ap, subst}
 use mathlib.Core.Bool.{Bool, true, false, not, cond}

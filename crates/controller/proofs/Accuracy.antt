@@ -1,10 +1,8 @@
--- Demand 3, "The cabin's accuracy": over any readable sheet whose table is sound for the game, and over the bytes of a game sheet
--- and its made sheet. Assumes nothing.
-use Prim.Native.Nat.{ℕ, _≤_}
-use mathlib.Core.Path.{_≡_, refl, sym, _∙_, ap, subst}
+-- Demand 3, "The cabin's accuracy", over any readable sheet whose table is sound for the game. Assumes nothing.
+use Prim.Native.Nat.{ℕ}
+use mathlib.Core.Path.{_≡_, sym, _∙_, ap, subst}
 use mathlib.Core.Bool.{true}
 use mathlib.Core.List.{List, [], _∷_}
-use native.Mathlib.Omega.{arith}
 use lib.ListN.{length}
 use Rattle.theory.specs.Answer.{accepted, onAccepted}
 use Rattle.theory.specs.Game.{Game, Legal}
@@ -13,13 +11,7 @@ use Rattle.theory.specs.Table.{flagged}
 use Rattle.theory.specs.Exact.{Run, going, playOf, commandOf}
 use Rattle.theory.proofs.Fold.{any-some}
 use Rattle.theory.proofs.Answer.{accepted-same, check-accepted, accepted-on}
-use Rattle.theory.proofs.Ours.{ours-fits, ours-judged}
-use Rattle.sheet.specs.Reading.{delayOf}
-use Rattle.sheet.specs.Meant.{gameOf}
 use Rattle.table.specs.TableSheet.{TableSheet, decode, shapeAnswer, someFlagged, tableAnswer}
-use Rattle.maker.specs.Making.{won, makeAnswer}
-use Rattle.maker.proofs.Readable.{tableFor, made-says}
-use Rattle.maker.proofs.Made.{making-won}
 use Rattle.controller.specs.State.{opened}
 use Rattle.controller.specs.Controller.{openAnswer, observeAnswer, actAnswer}
 use Rattle.controller.specs.Accuracy.{Call, hear, ask, reply, Progress, begun, turnOf, callStep, runCalls, True, Truthful, Answered, GoesSafely, Accurate}
@@ -88,25 +80,3 @@ module _ (G : Game) (t : List ℕ) (rule : Rule) (legal : Legal G) (reads : tabl
         played = f .works ∙ sym e;
         answered = r .1;
       }
-
--- the made sheet of a winning game is sound for it
-made-sound : (G : Game) (d : ℕ) → Legal G → d ≤ 6 → Sound G (tableFor G d)
-made-sound G d legal h =
-    record {
-      actions = refl;
-      highest = omega (arith, legal .start-position);
-      short-delay = h;
-      fits = ours-fits G d;
-      judged = ours-judged G legal d;
-    }
-
--- the delivered claim: for every game sheet s whose made sheet t is winning, every rule and every list of calls with true reports
-pub accuracy : (s : List ℕ) (masks ranks output : ℕ) (t : List ℕ) → makeAnswer s masks ranks output ≡ accepted (won t)
-    → (rule : Rule) → IsRule (gameOf s) rule
-    → (calls : List Call) → Truthful (gameOf s) t rule begun calls → Accurate (gameOf s) t rule calls
-accuracy s masks ranks output t made rule is calls h =
-    let w = making-won s masks ranks output t made in
-    let says : decode t ≡ tableFor (gameOf s) (delayOf s) = ap decode (w .sheet) ∙ made-says (gameOf s) (delayOf s) (w .ranged) in
-    accurate (gameOf s) t rule (w .ranged .legal) (w .reads ∙ ap accepted (sym says))
-    (subst (Sound (gameOf s)) (sym says) (made-sound (gameOf s) (delayOf s) (w .ranged .legal) (w .ranged .short-delay)))
-    is calls h

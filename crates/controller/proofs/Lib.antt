@@ -6,4 +6,3 @@ pub mod CommandLaws
 pub mod CallLaws
 pub mod Progress
 pub mod Accuracy
-pub mod Cases

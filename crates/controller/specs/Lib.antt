@@ -3,4 +3,3 @@ pub mod State
 pub mod Controller
 pub mod Accuracy
 pub mod Meaning
-pub mod Cases

@@ -29,11 +29,11 @@ use Rattle.maker.specs.Writing.{entryOf, entriesFrom, bodies, sheetOf}
 use Rattle.maker.proofs.Made.{making-won}
 use Rattle.maker.specs.Making.{won, headerOf, tableBytes, winningSheet, losingSheet, madeOf, outputSize, makeAnswer}
 use Rattle.table.specs.TableSheet.{tableLayout, decode, tableNodes, numbersOk, belowAt, bytesBelow, bodiesOk, shapeAnswer, someFlagged, tableAnswer}
 use Rattle.controller.specs.State.{slotAt, heldAt, withinAt, heldOk, windowOk, stateOk, pushed, shiftedAt, shifted}
 use Rattle.controller.specs.Controller.{agrees, observeWith, wordOf, obey, commandIn, reported, actWith, openAnswer, observeAnswer, actAnswer}
 use Rattle.controller.specs.Accuracy.{begun, callStep, Truthful, Accurate}
-use Rattle.controller.proofs.Accuracy.{accuracy}
-use Rattle.controller.specs.Cases.{hallTable, hallCalls, yard, resultBy, lastMove, positionsOf, repliesTo, answersBy, playsBy, computed, guess, splitGate, loop, hall, alternating, starred, cabinCases, cases}
+use Rattle.accuracy.proofs.Accuracy.{accuracy}
+use Rattle.accuracy.specs.Cases.{hallTable, hallCalls, yard, resultBy, lastMove, positionsOf, repliesTo, answersBy, playsBy, computed, guess, splitGate, loop, hall, alternating, starred, cabinCases, cases}
 
 pub cases-met : map computed cases ≡ map accepted cases
 unfolding both either allBelow anyBelow firstNot anyOf tabulate check onAccepted digit lastFrom turns index back lastActions bad spoiltBy fell falls rankIn ranksAfter finalRanks kept maskBelow maskAt masksBy masks odd words initialWords onRight withWord movedTo playedTo outcomes step arena keptAt goodBy goodFrom goodWith winning flags answerBy answer ours flagged bit leastFlagged lowestIn commandAt arrive advance turnBy playBy commandOf exact positionsOk headerOk keyAt risesAt targetOk targetsOk moveOk movesOk beginsAt hasLine leavesAt allLeave nodesOf powerTo sizeOk numberAt entrySize letterOf offsetOf lengthOf placeOf entryOk contentsOk placedAt partAt bodyOf kindOf kindAt isKnown isController isEnvironment isSafe knownAt controllerAt environmentAt safeAt isLine targetIn movesIn targetOf movesOf gameOf startOf actionCount delayOf layoutOf readAnswer bytesOf solveAnswer entryOf entriesFrom bodies sheetOf headerOf tableBytes winningSheet losingSheet madeOf outputSize makeAnswer tableLayout decode tableNodes numbersOk belowAt bytesBelow bodiesOk shapeAnswer someFlagged tableAnswer slotAt heldAt withinAt heldOk windowOk stateOk pushed shiftedAt shifted agrees observeWith wordOf obey commandIn reported actWith openAnswer observeAnswer actAnswer callStep yard resultBy lastMove positionsOf repliesTo answersBy playsBy computed guess splitGate loop hall alternating starred cabinCases

@@ -1,0 +1,3 @@
+-- The theorems.
+pub mod Accuracy
+pub mod Cases
