@@ -1,5 +1,5 @@
 -- What solving answers and leaves in both buffers, refusals too: the table that proofs/Cases.antt computes. Every buffer holds nines
--- before. Document 01's starred cases are in controller/specs/Cases.antt. Assumes nothing.
+-- before. Document 01's starred cases are in accuracy/specs/Cases.antt. Assumes nothing.
 use Prim.Native.Nat.{ℕ, _+_}
 use mathlib.Core.List.{List, [], _∷_, _++_}
 use lib.ListN.{length, replicate}

@@ -1,5 +1,5 @@
 -- Games of our own with their results, which catch wrong rounds that document 01's starred yards let pass (those are in
--- controller/specs/Cases.antt, over bytes). Games are written as P, C and U bodies. Assumes nothing.
+-- accuracy/specs/Cases.antt, over bytes). Games are written as P, C and U bodies. Assumes nothing.
 use Prim.Native.Nat.{ℕ, _%_}
 use mathlib.Core.Bool.{cond}
 use mathlib.Core.List.{List, [], _∷_}
