@@ -29,8 +29,8 @@ use Rattle.maker.specs.Writing.{entryOf, entriesFrom, bodies, sheetOf}
 use Rattle.maker.proofs.Made.{making-won}
 use Rattle.maker.specs.Making.{won, headerOf, tableBytes, winningSheet, losingSheet, madeOf, outputSize, makeAnswer}
 use Rattle.table.specs.TableSheet.{tableLayout, decode, tableNodes, numbersOk, belowAt, bytesBelow, bodiesOk, shapeAnswer, someFlagged, tableAnswer}
-use Rattle.controller.specs.State.{slotAt, heldAt, withinAt, heldOk, windowOk, stateOk, pushed, shiftedAt, shifted}
-use Rattle.controller.specs.Controller.{agrees, observeWith, wordOf, obey, commandIn, reported, actWith, openAnswer, observeAnswer, actAnswer}
+use Rattle.state.specs.State.{agrees, slotAt, heldAt, withinAt, heldOk, windowOk, stateOk, pushed, shiftedAt, shifted}
+use Rattle.controller.specs.Controller.{observeWith, wordOf, obey, commandIn, reported, actWith, openAnswer, observeAnswer, actAnswer}
 use Rattle.controller.specs.Accuracy.{begun, callStep, Truthful, Accurate}
 use Rattle.accuracy.proofs.Accuracy.{accuracy}
 use Rattle.accuracy.specs.Cases.{hallTable, hallCalls, yard, resultBy, lastMove, positionsOf, repliesTo, answersBy, playsBy, computed, guess, splitGate, loop, hall, alternating, starred, cabinCases, cases}

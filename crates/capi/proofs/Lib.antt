@@ -1,4 +1,4 @@
 -- Laws of specs/, on which the proofs of the functions rest, and the theorems over a state's bytes.
 pub mod ExportLaws
-pub mod ByteLaws
+pub mod ControlLaws
 pub mod StateBytes

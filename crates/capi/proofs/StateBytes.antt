@@ -1,12 +1,10 @@
--- A state's bytes: encoding and decoding gives the state back, and calls over bytes are the calls of the controller's claim
--- (accuracy, in accuracy/proofs/Accuracy.antt). Assumes nothing.
-use Prim.Native.Nat.{ℕ, _-_, _*_, _/_, _%_, _≤_, _<_}
+-- Calls over a state's bytes are the calls of the controller's claim (accuracy, in accuracy/proofs/Accuracy.antt). Assumes nothing.
+use Prim.Native.Nat.{ℕ, _-_, _*_, _≤_}
 use mathlib.Core.Path.{_≡_, refl, _∙_, ap, subst}
-use mathlib.Core.Bool.{Bool, true, false, not, cond}
+use mathlib.Core.Bool.{true}
 use mathlib.Core.List.{List, [], _∷_}
 use native.Mathlib.Omega.{arith}
-use lib.Dec.{eqb}
-use lib.ListN.{length, getD, length-set}
+use lib.ListN.{length, length-set}
 use borrow.Author.Tests.{leb-true}
 use Rattle.theory.specs.Fold.{tabulate}
 use Rattle.theory.specs.Answer.{Answer, refused, accepted}
@@ -14,67 +12,14 @@ use Rattle.theory.specs.Exact.{Command, missing, give}
 use Rattle.theory.proofs.Fold.{both-left}
 use Rattle.theory.proofs.Answer.{refused-not-accepted, accepted-same, check-accepted, accepted-on}
 use Rattle.table.specs.TableSheet.{TableSheet, tableAnswer}
-use Rattle.controller.specs.State.{million, unknown, seen, opened, slotAt, stateOk, observed, pushed, shifted, gaveState}
+use Rattle.state.specs.State.{million, seen, opened, stateOk, observed, pushed, shifted, gaveState}
+use Rattle.state.specs.StateBytes.{decodeState, encodeState}
+use Rattle.state.proofs.Back.{Held, three-decoded, seven-decoded, decode-encode}
+use Rattle.state.specs.declared.state.State.{State}
 use Rattle.controller.specs.Controller.{Gave, observeWith, obey, commandIn, actWith, openAnswer, observeAnswer, actAnswer}
 use Rattle.controller.specs.Accuracy.{Call, hear, ask, Progress, afterHearing, afterGiving, reply, callStep, runCalls}
 use Rattle.controller.specs.Meaning.{openReply}
-use Rattle.controller.specs.declared.state.Slot.{Slot}
-use Rattle.controller.specs.declared.state.State.{State}
-use Rattle.capi.specs.StateBytes.{turnFrom, slotFrom, slotIn, windowIn, decodeState, flagOf, slotBytes, encodeState}
 use Rattle.capi.specs.Controlled.{bytesFor, bytesAfter, byteReply, runBytes}
-
--- a state that has bytes: a turn of four bytes, three held actions, seven slots
-pub record Held (s : State) : Type 0 where
-  pub short-turn : s .turn < 4294967296
-  pub three : length (s .last) ≡ 3
-  pub seven : length (s .window) ≡ 7
-
--- decoding what was encoded
-
-turn-back : (t : ℕ) → t < 4294967296 → turnFrom (t % 256) (t / 256 % 256) (t / 256 / 256 % 256) (t / 256 / 256 / 256 % 256) ≡ t
-unfolding turnFrom
-turn-back t h = omega arith
-
-known-back : (b : Bool) → not (eqb (cond b 1 0) 0) ≡ b
-known-back true = refl
-known-back false = refl
-
-slot-back : (v : Slot) → slotFrom (flagOf v) (v .position) ≡ v
-unfolding slotFrom flagOf
-slot-back v = λ i. record { known = known-back (v .known) i; position = v .position }
-
-actions-back : (l : List ℕ) → length l ≡ 3 → getD l 0 0 ∷ getD l 1 0 ∷ getD l 2 0 ∷ [] ≡ l
-actions-back [] e = absurd (omega arith)
-actions-back (a ∷ []) e = absurd (omega arith)
-actions-back (a ∷ b ∷ []) e = absurd (omega arith)
-actions-back (a ∷ b ∷ c ∷ []) e = refl
-actions-back (a ∷ b ∷ c ∷ d ∷ l) e = absurd (omega arith)
-
-window-back : (l : List Slot) → length l ≡ 7
-    → getD l 0 unknown ∷ getD l 1 unknown ∷ getD l 2 unknown ∷ getD l 3 unknown ∷ getD l 4 unknown ∷ getD l 5 unknown ∷ getD l 6 unknown ∷ []
-    ≡ l
-window-back [] e = absurd (omega arith)
-window-back (a ∷ []) e = absurd (omega arith)
-window-back (a ∷ b ∷ []) e = absurd (omega arith)
-window-back (a ∷ b ∷ c ∷ []) e = absurd (omega arith)
-window-back (a ∷ b ∷ c ∷ d ∷ []) e = absurd (omega arith)
-window-back (a ∷ b ∷ c ∷ d ∷ f ∷ []) e = absurd (omega arith)
-window-back (a ∷ b ∷ c ∷ d ∷ f ∷ g ∷ []) e = absurd (omega arith)
-window-back (a ∷ b ∷ c ∷ d ∷ f ∷ g ∷ h ∷ []) e = refl
-window-back (a ∷ b ∷ c ∷ d ∷ f ∷ g ∷ h ∷ j ∷ l) e = absurd (omega arith)
-
-slots-back : (s : State) → length (s .window) ≡ 7 → decodeState (encodeState s) .window ≡ s .window
-unfolding decodeState encodeState windowIn slotIn slotBytes slotAt
-slots-back s e = simp slot-back (window-back (s .window) e)
-
-pub decode-encode : (s : State) → Held s → decodeState (encodeState s) ≡ s
-unfolding decodeState encodeState slotBytes
-decode-encode s h =
-    λ i. record {
-      turn = turn-back (s .turn) (h .short-turn) i;
-      last = actions-back (s .last) (h .three) i;
-      window = slots-back s (h .seven) i;
-    }
 
 -- the next state of an accepted call has bytes
 
@@ -115,14 +60,6 @@ module _ (t : List ℕ) (s : State) (three : length (s .last) ≡ 3) (seven : le
       obeyed-held (a .0) (commandIn (a .0) s) g (turn-few (a .0) (b .0)) (d .1)
 
 -- calls over bytes
-
-three-decoded : (b : List ℕ) → length (decodeState b .last) ≡ 3
-unfolding decodeState
-three-decoded b = refl
-
-seven-decoded : (b : List ℕ) → length (decodeState b .window) ≡ 7
-unfolding decodeState windowIn
-seven-decoded b = refl
 
 hear-follows : (b : List ℕ) (a : Answer State) → ((n : State) → a ≡ accepted n → Held n)
     → decodeState (bytesAfter (afterHearing (decodeState b) a) b) ≡ afterHearing (decodeState b) a .state

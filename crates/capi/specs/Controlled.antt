@@ -3,8 +3,8 @@
 use Prim.Native.Nat.{ℕ}
 use mathlib.Core.List.{List, [], _∷_}
 use Rattle.controller.specs.Accuracy.{Call, Outcome, accepts, gives, refuses, Reply, reply}
-use Rattle.controller.specs.declared.state.State.{State}
-use Rattle.capi.specs.StateBytes.{decodeState, encodeState}
+use Rattle.state.specs.declared.state.State.{State}
+use Rattle.state.specs.StateBytes.{decodeState, encodeState}
 
 -- the number of a refusal, 0 for every other outcome
 unfoldable pub outcomeNumber : Outcome → ℕ

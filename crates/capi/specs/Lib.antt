@@ -1,4 +1,3 @@
 -- What the exported functions answer and leave. Each file says what it defines.
 pub mod Exported
-pub mod StateBytes
 pub mod Controlled

@@ -1,12 +1,12 @@
 // Opening, hearing a report and giving a command for C and Rust callers, who keep the state as bytes. Every function takes any bytes.
-use crate::bytes::decode;
-use crate::bytes::encode;
 use controller::calls::Decision;
 use controller::calls::Step;
 use controller::calls::act;
 use controller::calls::observe;
 use controller::calls::opening;
 use sheet::refusal::number;
+use state::bytes::decode;
+use state::bytes::encode;
 ghost use mathlib.Core.Path.{_≡_};
 ghost use Rattle.controller.specs.Accuracy.{hear, ask};
 ghost use Rattle.controller.specs.Meaning.{meaning, openReply};

@@ -1,6 +1,5 @@
 // Reading and solving for C and Rust callers (include/loquatquoits.h). Every function takes any bytes and any lengths.
 pub mod tables; // making sheets, and the masks of a table sheet
-pub mod bytes; // the controller's state as bytes
 pub mod control; // opening, hearing, giving
 
 use sheet::reading::Reading;

@@ -12,7 +12,7 @@ use Rattle.theory.specs.Exact.{Run, going, playOf, commandOf}
 use Rattle.theory.proofs.Fold.{any-some}
 use Rattle.theory.proofs.Answer.{accepted-same, check-accepted, accepted-on}
 use Rattle.table.specs.TableSheet.{TableSheet, decode, shapeAnswer, someFlagged, tableAnswer}
-use Rattle.controller.specs.State.{opened}
+use Rattle.state.specs.State.{opened}
 use Rattle.controller.specs.Controller.{openAnswer, observeAnswer, actAnswer}
 use Rattle.controller.specs.Accuracy.{Call, hear, ask, reply, Progress, begun, turnOf, callStep, runCalls, True, Truthful, Answered, GoesSafely, Accurate}
 use Rattle.controller.proofs.Progress.{Sound, goes, Follows, begins, Right, hear-right, ask-right}

@@ -8,9 +8,9 @@ use Rattle.theory.specs.Answer.{refused, accepted}
 use Rattle.theory.specs.Exact.{missing, give}
 use Rattle.theory.proofs.Answer.{check-passed, check-failed}
 use Rattle.table.specs.TableSheet.{TableSheet}
-use Rattle.controller.specs.State.{million, slotAt, stateOk, observed, gaveState}
-use Rattle.controller.specs.Controller.{agrees, observeWith, obey, commandIn, reported, actWith}
-use Rattle.controller.specs.declared.state.State.{State}
+use Rattle.state.specs.State.{agrees, million, slotAt, stateOk, observed, gaveState}
+use Rattle.controller.specs.Controller.{observeWith, obey, commandIn, reported, actWith}
+use Rattle.state.specs.declared.state.State.{State}
 
 module _ (x : TableSheet) (s : State) (k p : ℕ) where
   pub observe-20 : stateOk x s ≡ false → observeWith x s k p ≡ refused 20

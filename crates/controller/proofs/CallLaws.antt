@@ -31,15 +31,15 @@ use Rattle.table.specs.TableSheet.{TableSheet, says, tableAt, decode, numbersOk
 use Rattle.table.specs.declared.reading.TableLayout.{TableLayout}
 use Rattle.table.specs.declared.reading.TableReading.{TableReading}
 use Rattle.table.specs.declared.reading.TableReading.the-variants as table
-use Rattle.controller.specs.State.{million, unknown, seen, opened, slotAt, heldOk, windowOk, stateOk, pushed, shifted, gaveState}
-use Rattle.controller.specs.Controller.{agrees, observeWith, wordOf, commandIn, reported, actWith, openAnswer, observeAnswer, actAnswer}
+use Rattle.state.specs.State.{agrees, million, unknown, seen, opened, slotAt, heldOk, windowOk, stateOk, pushed, shifted, gaveState}
+use Rattle.controller.specs.Controller.{observeWith, wordOf, commandIn, reported, actWith, openAnswer, observeAnswer, actAnswer}
 use Rattle.controller.specs.Accuracy.{hear, ask, afterHearing, afterGiving, reply}
 use Rattle.controller.specs.Meaning.{meaning, openReply, Usable}
 use Rattle.controller.specs.declared.calls.Decision.{Decision}
 use Rattle.controller.specs.declared.calls.Decision.the-variants.{Accepted, Given, Refused}
 use Rattle.controller.specs.declared.calls.Step.{Step}
-use Rattle.controller.specs.declared.state.Slot.{Slot}
-use Rattle.controller.specs.declared.state.State.{State}
+use Rattle.state.specs.declared.state.Slot.{Slot}
+use Rattle.state.specs.declared.state.State.{State}
 use Rattle.controller.proofs.Answers.{observe-20, observe-16, observe-17, observe-18, observe-19, observe-accepts, act-20, act-15, act-13, act-14, act-gives}
 
 -- a step

@@ -1,7 +1,6 @@
 -- The theorems over specs/.
 pub mod PlayLaws
 pub mod Answers
-pub mod StateLaws
 pub mod CommandLaws
 pub mod CallLaws
 pub mod Progress

@@ -20,11 +20,11 @@ use Rattle.theory.proofs.Fold.{bool, below?, both-true, both-false, either-left
 use Rattle.theory.proofs.Plays.{back-play, play-position}
 use Rattle.theory.proofs.Exact.{Goes, exact-goes}
 use Rattle.table.specs.TableSheet.{TableSheet}
-use Rattle.controller.specs.State.{million, slots, unknown, seen, slotAt, heldAt, withinAt, heldOk, windowOk, stateOk, observed, pushed, shiftedAt, shifted, gaveState}
-use Rattle.controller.specs.Controller.{Gave, agrees, observeWith, wordOf, commandIn, reported, actWith}
+use Rattle.state.specs.State.{agrees, million, slots, unknown, seen, slotAt, heldAt, withinAt, heldOk, windowOk, stateOk, observed, pushed, shiftedAt, shifted, gaveState}
+use Rattle.controller.specs.Controller.{Gave, observeWith, wordOf, commandIn, reported, actWith}
 use Rattle.controller.specs.Accuracy.{Call, hear, ask, Reply, afterHearing, afterGiving, Progress, begun, turnOf, after, HasAt, isHeard, toGive, rightAnswer}
-use Rattle.controller.specs.declared.state.Slot.{Slot}
-use Rattle.controller.specs.declared.state.State.{State}
+use Rattle.state.specs.declared.state.Slot.{Slot}
+use Rattle.state.specs.declared.state.State.{State}
 use Rattle.controller.proofs.PlayLaws.{word-actions, action-small, further, exact-further, worked-further}
 use Rattle.controller.proofs.Answers.{observe-16, observe-17, observe-18, observe-accepts, act-15, act-13, act-gives}
 

@@ -12,9 +12,9 @@ use Rattle.theory.specs.Game.{Game}
 use Rattle.theory.specs.Play.{last, index, back, actionsOf, Rule}
 use Rattle.theory.specs.Exact.{Command, missing, give, Run, going, playOf, commandOf, exact, worked}
 use Rattle.table.specs.TableSheet.{TableSheet, decode}
-use Rattle.controller.specs.State.{million, opened}
+use Rattle.state.specs.State.{million, opened}
 use Rattle.controller.specs.Controller.{Gave, openAnswer, observeAnswer, actAnswer}
-use Rattle.controller.specs.declared.state.State.{State}
+use Rattle.state.specs.declared.state.State.{State}
 
 -- "Its calls are hearing and giving": hear a position at an index, ask for the command
 pub data Call : Type 0 where

@@ -9,13 +9,8 @@ use Rattle.theory.specs.Fold.{either}
 use Rattle.theory.specs.Answer.{Answer, refused, accepted, check, onAccepted}
 use Rattle.theory.specs.Exact.{Command, missing, give, commandAt}
 use Rattle.table.specs.TableSheet.{TableSheet, tableAnswer}
-use Rattle.controller.specs.State.{million, opened, slotAt, stateOk, observed, gaveState}
-use Rattle.controller.specs.declared.state.Slot.{Slot}
-use Rattle.controller.specs.declared.state.State.{State}
-
--- a slot that says nothing else than position p
-unfoldable pub agrees : Slot → ℕ → Bool
-agrees w p = either (not (w .known)) (eqb (w .position) p)
+use Rattle.state.specs.State.{million, opened, slotAt, agrees, stateOk, observed, gaveState}
+use Rattle.state.specs.declared.state.State.{State}
 
 -- "20; 16: position over the highest; 17: index below 2i - d (never below 0); 18: index over 2i; 19: that index heard with
 -- another position"

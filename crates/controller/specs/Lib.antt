@@ -1,5 +1,4 @@
 -- What the controller answers, and document 01's claim about every list of calls. Each file says what it defines.
-pub mod State
 pub mod Controller
 pub mod Accuracy
 pub mod Meaning

@@ -5,7 +5,7 @@ use lib.ListN.{getD}
 use Rattle.sheet.specs.Refusals.{numberOf}
 use Rattle.sheet.specs.Limits.{mostActions, mostDelay}
 use Rattle.table.specs.TableSheet.{TableSheet}
-use Rattle.controller.specs.State.{opened}
+use Rattle.state.specs.State.{opened}
 use Rattle.controller.specs.Controller.{openAnswer}
 use Rattle.controller.specs.Accuracy.{Outcome, accepts, gives, refuses, Reply, afterHearing}
 use Rattle.controller.specs.declared.calls.Decision.{Decision}

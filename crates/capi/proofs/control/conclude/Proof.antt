@@ -1,5 +1,5 @@
 -- `conclude` meets its contract, by the laws of ByteLaws.antt. Assumes nothing.
-use Rattle.capi.proofs.ByteLaws.{concludes}
+use Rattle.capi.proofs.ControlLaws.{concludes}
 use borrow.Author.Needs.{needs}
 use Rattle.capi.proofs.control.conclude.Statement.{statement}
 use Rattle.capi.proofs.control.conclude.Tie as tie

@@ -1,5 +1,5 @@
 -- `lq_act` meets its contract, by the laws of ByteLaws.antt. Assumes nothing.
-use Rattle.capi.proofs.ByteLaws.{asks}
+use Rattle.capi.proofs.ControlLaws.{asks}
 use borrow.Author.Needs.{needs}
 use Rattle.capi.proofs.control.lq_act.Statement.{statement}
 use Rattle.capi.proofs.control.lq_act.Tie as tie

@@ -1,5 +1,5 @@
 -- `lq_observe` meets its contract, by the laws of ByteLaws.antt. Assumes nothing.
-use Rattle.capi.proofs.ByteLaws.{observes}
+use Rattle.capi.proofs.ControlLaws.{observes}
 use borrow.Author.Needs.{needs}
 use Rattle.capi.proofs.control.lq_observe.Statement.{statement}
 use Rattle.capi.proofs.control.lq_observe.Tie as tie

@@ -1,5 +1,5 @@
 -- `lq_open` meets its contract, by the laws of ByteLaws.antt. Assumes nothing.
-use Rattle.capi.proofs.ByteLaws.{opens}
+use Rattle.capi.proofs.ControlLaws.{opens}
 use borrow.Author.Needs.{needs}
 use Rattle.capi.proofs.control.lq_open.Statement.{statement}
 use Rattle.capi.proofs.control.lq_open.Tie as tie

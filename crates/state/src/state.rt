@@ -1,0 +1,98 @@
+// The controller's state, by age: the newest comes first, so nothing in it depends on the turn's number.
+use sheet::form::wide;
+ghost use mathlib.Core.Path.{_≡_};
+ghost use lib.ListN.{getD};
+ghost use Rattle.state.specs.State.{unknown, opened, agrees, pushed, shiftedAt, shifted};
+
+// The last turn: no command is given at it.
+pub const LAST_TURN: usize = 1000000;
+
+const SLOTS: usize = 7;
+
+// An observation: is the position of this index known, and which one it is.
+pub struct Slot {
+    pub known: bool,
+    pub position: u8,
+}
+
+// last[k] is the action of turn - 1 - k, window[k] the position at index 2 * turn - k; what is not held is 0.
+pub struct State {
+    pub turn: usize,
+    pub last: [u8; 3],
+    pub window: [Slot; 7],
+}
+
+// A slot without a report.
+fn unknown() -> Slot
+    ensures { λ r. ⌜ r ≡ unknown ⌝ }
+{
+    Slot {
+        known: false,
+        position: 0,
+    }
+}
+
+// Nothing given, nothing heard.
+pub fn opened() -> State
+    ensures { λ r. ⌜ r ≡ opened ⌝ }
+{
+    let none = unknown();
+    let window = [none; 7];
+    let last = [0u8; 3];
+    State {
+        turn: 0,
+        last,
+        window,
+    }
+}
+
+// The slot of age k; unknown where there is none.
+pub fn slot_in(window: [Slot; 7], k: usize) -> Slot
+    ensures { λ r. ⌜ r ≡ getD window k unknown ⌝ }
+{
+    if k < SLOTS {
+        return window[k];
+    }
+    unknown()
+}
+
+// Does the slot say nothing else than this position?
+pub fn agrees(slot: Slot, position: u8) -> bool
+    ensures { λ r. ⌜ r ≡ agrees slot position ⌝ }
+{
+    if slot.known {
+        return slot.position == position;
+    }
+    true
+}
+
+pub fn pushed(action: u8, last: [u8; 3]) -> [u8; 3]
+    ensures { λ r. ⌜ r ≡ pushed action last ⌝ }
+{
+    [action, last[0], last[1]]
+}
+
+// Slot k a turn later: it was two younger, and is dropped below the new window.
+fn shifted_at(delay: u8, window: [Slot; 7], k: u8) -> Slot
+    ensures { λ r. ⌜ r ≡ shiftedAt delay window k ⌝ }
+{
+    if k < 2 {
+        return unknown();
+    }
+    if delay < k {
+        return unknown();
+    }
+    slot_in(window, wide(k) - 2)
+}
+
+pub fn shifted(delay: u8, window: [Slot; 7]) -> [Slot; 7]
+    ensures { λ r. ⌜ r ≡ shifted delay window ⌝ }
+{
+    let none = unknown();
+    let a = shifted_at(delay, window, 2);
+    let b = shifted_at(delay, window, 3);
+    let c = shifted_at(delay, window, 4);
+    let d = shifted_at(delay, window, 5);
+    let e = shifted_at(delay, window, 6);
+    [none, none, a, b, c, d, e]
+}
