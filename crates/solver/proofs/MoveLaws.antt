@@ -1,4 +1,4 @@
--- The index of first lines (specs/View.antt). Assumes nothing.
+-- The index of first lines (specs/Levels.antt). Assumes nothing.
 use Prim.Native.Nat.{ℕ, suc, _+_, _*_, _/_, _≤_, _<_}
 use mathlib.Core.Path.{_≡_, refl, sym, _∙_}
 use mathlib.Core.Bool.{true, false}

@@ -1,3 +1,4 @@
+-- `all_rounds` meets its contract. The ranks are those after round n, and each further round leaves fewer nodes standing. Assumes nothing.
 use Prim.Native.Nat.{_+_, _≤_}
 use mathlib.Core.Path.{_≡_}
 use lib.ListN.{length}
@@ -6,10 +7,6 @@ use Rattle.walk.specs.View.{arenaOf}
 use Rattle.rounds.proofs.RoundLaws.{standing, allRounds}
 use Rattle.rounds.proofs.rounds.all_rounds.Statement.{statement}
 use Rattle.rounds.proofs.rounds.all_rounds.Tie as tie
-use Rattle.rounds.proofs.rounds.all_rounds.Reads as reads
-use Rattle.rounds.proofs.rounds.all_rounds.Lts as lts
-use Rattle.rounds.proofs.rounds.first_round.Reads as first-round-reads
-use Rattle.rounds.proofs.rounds.round.Reads as round-reads
 
 abbrev Inv-loop : tie.InvT-loop
 Inv-loop p grid u firsts level ranks₀ n₀ ranks n =
@@ -21,35 +18,27 @@ Inv-loop p grid u firsts level ranks₀ n₀ ranks n =
 abbrev μ-loop : tie.MeasureT-loop
 μ-loop p grid u firsts level ranks₀ n₀ ranks n = standing ranks (level .nodes)
 
--- src/rounds.rt:111:5
 first-round-requires : tie.Need-first-round-requires Inv-loop μ-loop
 first-round-requires c κs = search allRounds
 
--- src/rounds.rt:113:9
 loop-holds : tie.Need-loop-holds Inv-loop μ-loop
 loop-holds c = search allRounds
 
--- src/rounds.rt:114:13
 round-requires : tie.Need-round-requires Inv-loop μ-loop
 round-requires c κs = search allRounds
 
--- src/rounds.rt:117:9
 add-n : tie.Need-add-n Inv-loop μ-loop
 add-n c = search allRounds
 
--- src/rounds.rt:113:9
 loop-less : tie.Need-loop-less Inv-loop μ-loop
 loop-less c = search allRounds
 
--- src/rounds.rt:113:9
 loop-again : tie.Need-loop-again Inv-loop μ-loop
 loop-again c = search allRounds
 
--- src/rounds.rt:100:1
 same-length : tie.Need-same-length Inv-loop μ-loop
 same-length c = search allRounds
 
--- src/rounds.rt:100:1
 returns : tie.Need-returns Inv-loop μ-loop
 returns c = search allRounds
 

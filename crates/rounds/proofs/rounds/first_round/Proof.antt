@@ -1,3 +1,4 @@
+-- `first_round` meets its contract. The first ranks of the nodes passed are in place. Assumes nothing.
 use Prim.Native.Nat.{_-_, _≤_}
 use mathlib.Core.Path.{_≡_}
 use lib.ListN.{length}
@@ -6,9 +7,6 @@ use Rattle.rounds.proofs.Filling.{filled}
 use Rattle.rounds.proofs.RoundLaws.{filling}
 use Rattle.rounds.proofs.rounds.first_round.Statement.{statement}
 use Rattle.rounds.proofs.rounds.first_round.Tie as tie
-use Rattle.rounds.proofs.rounds.first_round.Reads as reads
-use Rattle.rounds.proofs.rounds.first_round.Lts as lts
-use Rattle.rounds.proofs.rounds.first_rank.Reads as first-rank-reads
 
 abbrev Inv-loop : tie.InvT-loop
 Inv-loop p level ranks₀ k₀ ranks k = (k ≤ level .nodes) × (length ranks ≡ length ranks₀) × (ranks ≡ filled (firstRank p level) k ranks₀)
@@ -16,39 +14,30 @@ Inv-loop p level ranks₀ k₀ ranks k = (k ≤ level .nodes) × (length ranks �
 abbrev μ-loop : tie.MeasureT-loop
 μ-loop p level ranks₀ k₀ ranks k = level .nodes - k
 
--- src/rounds.rt:44:5
 loop-holds : tie.Need-loop-holds Inv-loop μ-loop
 loop-holds c = search filling
 
--- src/rounds.rt:45:20
 first-rank-requires : tie.Need-first-rank-requires Inv-loop μ-loop
 first-rank-requires c κs = search filling
 
--- src/rounds.rt:45:9
 mul-ranks : tie.Need-mul-ranks Inv-loop μ-loop
 mul-ranks c = search filling
 
--- src/rounds.rt:45:9
 slice-write-ranks : tie.Need-slice-write-ranks Inv-loop μ-loop
 slice-write-ranks c = search filling
 
--- src/rounds.rt:46:9
 add-k : tie.Need-add-k Inv-loop μ-loop
 add-k c = search filling
 
--- src/rounds.rt:44:5
 loop-less : tie.Need-loop-less Inv-loop μ-loop
 loop-less c = search filling
 
--- src/rounds.rt:44:5
 loop-again : tie.Need-loop-again Inv-loop μ-loop
 loop-again c = search filling
 
--- src/rounds.rt:39:1
 same-length : tie.Need-same-length Inv-loop μ-loop
 same-length c = search filling
 
--- src/rounds.rt:39:1
 returns : tie.Need-returns Inv-loop μ-loop
 returns c = search filling
 

@@ -1,3 +1,4 @@
+-- `round` meets its contract. The nodes passed have the next round's ranks, the others the old ones. Assumes nothing.
 use Prim.Native.Nat.{_-_, _≤_}
 use mathlib.Core.Path.{_≡_, _∙_, ap}
 use mathlib.Core.Logic.{⊎-elim}
@@ -11,9 +12,6 @@ use Rattle.rounds.proofs.Filling.{filled}
 use Rattle.rounds.proofs.RoundLaws.{round-struck, round-kept, any-struck, any-kept, rounding}
 use Rattle.rounds.proofs.rounds.round.Statement.{statement}
 use Rattle.rounds.proofs.rounds.round.Tie as tie
-use Rattle.rounds.proofs.rounds.round.Reads as reads
-use Rattle.rounds.proofs.rounds.round.Lts as lts
-use Rattle.rounds.proofs.rounds.struck.Reads as struck-reads
 
 abbrev Inv-loop : tie.InvT-loop
 Inv-loop p grid u firsts level ranks₀ n any₀ k₀ ranks any k =
@@ -25,35 +23,27 @@ Inv-loop p grid u firsts level ranks₀ n any₀ k₀ ranks any k =
 abbrev μ-loop : tie.MeasureT-loop
 μ-loop p grid u firsts level ranks₀ n any₀ k₀ ranks any k = level .nodes - k
 
--- src/rounds.rt:90:5
 loop-holds : tie.Need-loop-holds Inv-loop μ-loop
 loop-holds c = search rounding
 
--- src/rounds.rt:91:12
 struck-requires : tie.Need-struck-requires Inv-loop μ-loop
 struck-requires c κs = search rounding
 
--- src/rounds.rt:92:24
 add-ranks : tie.Need-add-ranks Inv-loop μ-loop
 add-ranks c = search rounding
 
--- src/rounds.rt:92:13
 mul-ranks : tie.Need-mul-ranks Inv-loop μ-loop
 mul-ranks c = search rounding
 
--- src/rounds.rt:92:13
 slice-write-ranks : tie.Need-slice-write-ranks Inv-loop μ-loop
 slice-write-ranks c = search rounding
 
--- src/rounds.rt:95:9
 add-k : tie.Need-add-k Inv-loop μ-loop
 add-k c = search rounding
 
--- src/rounds.rt:90:5
 loop-less : tie.Need-loop-less Inv-loop μ-loop
 loop-less c = search rounding
 
--- src/rounds.rt:90:5
 loop-again : tie.Need-loop-again Inv-loop μ-loop
 loop-again c =
     let i = c .before .before .before .before .before .before .before .before .before .pre in
@@ -74,11 +64,9 @@ loop-again c =
     ))
     (c .if2 .came)
 
--- src/rounds.rt:76:1
 same-length : tie.Need-same-length Inv-loop μ-loop
 same-length c = search rounding
 
--- src/rounds.rt:76:1
 returns : tie.Need-returns Inv-loop μ-loop
 returns c = search rounding
 

@@ -1,3 +1,4 @@
+-- `skip_below` meets its contract. Every line passed is of a position below q. Assumes nothing.
 use Prim.Native.Nat.{_/_, _-_, _≤_}
 use mathlib.Core.Path.{_≡_}
 use mathlib.Core.Bool.{true}
@@ -7,9 +8,6 @@ use Rattle.solver.specs.Levels.{fromBelow}
 use Rattle.solver.proofs.MoveLaws.{skipping}
 use Rattle.solver.proofs.moves.skip_below.Statement.{statement}
 use Rattle.solver.proofs.moves.skip_below.Tie as tie
-use Rattle.solver.proofs.moves.skip_below.Reads as reads
-use Rattle.solver.proofs.moves.skip_below.Lts as lts
-use Rattle.sheet.proofs.form.wide.Reads as wide-reads
 
 abbrev Inv-loop : tie.InvT-loop
 Inv-loop u from q n line₀ line = (line ≤ length u / 2) × (allBelow (fromBelow u q) line ≡ true)
@@ -17,39 +15,30 @@ Inv-loop u from q n line₀ line = (line ≤ length u / 2) × (allBelow (fromBel
 abbrev μ-loop : tie.MeasureT-loop
 μ-loop u from q n line₀ line = length u / 2 - line
 
--- src/moves.rt:18:5
 loop-holds : tie.Need-loop-holds Inv-loop μ-loop
 loop-holds c = search skipping
 
--- src/moves.rt:19:24
 mul-wide : tie.Need-mul-wide Inv-loop μ-loop
 mul-wide c = search skipping
 
--- src/moves.rt:19:22
 shared-slice-read-wide : tie.Need-shared-slice-read-wide Inv-loop μ-loop
 shared-slice-read-wide c = search skipping
 
--- src/moves.rt:19:17
 wide-requires : tie.Need-wide-requires Inv-loop μ-loop
 wide-requires c κs = search skipping
 
--- src/moves.rt:20:13
 returns : tie.Need-returns Inv-loop μ-loop
 returns c = search skipping
 
--- src/moves.rt:22:9
 add-line : tie.Need-add-line Inv-loop μ-loop
 add-line c = search skipping
 
--- src/moves.rt:18:5
 loop-less : tie.Need-loop-less Inv-loop μ-loop
 loop-less c = search skipping
 
--- src/moves.rt:18:5
 loop-again : tie.Need-loop-again Inv-loop μ-loop
 loop-again c = search skipping
 
--- src/moves.rt:12:1
 returns-2 : tie.Need-returns-2 Inv-loop μ-loop
 returns-2 c = search skipping
 

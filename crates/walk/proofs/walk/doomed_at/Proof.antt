@@ -1,3 +1,4 @@
+-- `doomed_at` meets its contract. Every action passed is spoilt, and no line passed spoils the action at hand. Assumes nothing.
 use Prim.Native.Nat.{_-_, _≤_}
 use mathlib.Core.Path.{_≡_}
 use mathlib.Core.Bool.{true}
@@ -8,10 +9,6 @@ use Rattle.walk.specs.Walks.{fallenBy}
 use Rattle.walk.proofs.WalkLaws.{spoiltFrom, walks}
 use Rattle.walk.proofs.walk.doomed_at.Statement.{statement}
 use Rattle.walk.proofs.walk.doomed_at.Tie as tie
-use Rattle.walk.proofs.walk.doomed_at.Reads as reads
-use Rattle.walk.proofs.walk.doomed_at.Lts as lts
-use Rattle.walk.proofs.walk.choose.Reads as choose-reads
-use Rattle.walk.proofs.walk.spoils.Reads as spoils-reads
 
 abbrev Inv-moves : tie.InvT-moves
 Inv-moves p grid u firsts level marks n k q w c x line₀ line = allBelow (spoiltBy (arenaOf p grid u firsts level) (fallenBy n marks) k) c ≡ spoiltFrom p grid u level (fallenBy n marks) x line
@@ -25,67 +22,51 @@ Inv-actions p grid u firsts level marks n k q w c₀ c = (c ≤ level .actions) 
 abbrev μ-actions : tie.MeasureT-actions
 μ-actions p grid u firsts level marks n k q w c₀ c = level .actions - c
 
--- src/walk.rt:192:13
 div-q : tie.Need-div-q Inv-moves μ-moves Inv-actions μ-actions
 div-q c = search walks
 
--- src/walk.rt:193:13
 rem-w : tie.Need-rem-w Inv-moves μ-moves Inv-actions μ-actions
 rem-w c = search walks
 
--- src/walk.rt:195:9
 actions-holds : tie.Need-actions-holds Inv-moves μ-moves Inv-actions μ-actions
 actions-holds c = search walks
 
--- src/walk.rt:199:13
 choose-requires : tie.Need-choose-requires Inv-moves μ-moves Inv-actions μ-actions
 choose-requires c κs = search walks
 
--- src/walk.rt:200:9
 add-c : tie.Need-add-c Inv-moves μ-moves Inv-actions μ-actions
 add-c c = search walks
 
--- src/walk.rt:195:9
 actions-less : tie.Need-actions-less Inv-moves μ-moves Inv-actions μ-actions
 actions-less c = search walks
 
--- src/walk.rt:195:9
 actions-again : tie.Need-actions-again Inv-moves μ-moves Inv-actions μ-actions
 actions-again c = search walks
 
--- src/walk.rt:205:9
 moves-holds : tie.Need-moves-holds Inv-moves μ-moves Inv-actions μ-actions
 moves-holds c = search walks
 
--- src/walk.rt:209:16
 spoils-requires : tie.Need-spoils-requires Inv-moves μ-moves Inv-actions μ-actions
 spoils-requires c κs = search walks
 
--- src/walk.rt:195:9
 actions-less-2 : tie.Need-actions-less-2 Inv-moves μ-moves Inv-actions μ-actions
 actions-less-2 c = search walks
 
--- src/walk.rt:195:9
 actions-again-2 : tie.Need-actions-again-2 Inv-moves μ-moves Inv-actions μ-actions
 actions-again-2 c = search walks
 
--- src/walk.rt:212:13
 add-line : tie.Need-add-line Inv-moves μ-moves Inv-actions μ-actions
 add-line c = search walks
 
--- src/walk.rt:205:9
 moves-less : tie.Need-moves-less Inv-moves μ-moves Inv-actions μ-actions
 moves-less c = search walks
 
--- src/walk.rt:205:9
 moves-again : tie.Need-moves-again Inv-moves μ-moves Inv-actions μ-actions
 moves-again c = search walks
 
--- src/walk.rt:179:1
 returns : tie.Need-returns Inv-moves μ-moves Inv-actions μ-actions
 returns c = search walks
 
--- src/walk.rt:179:1
 returns-2 : tie.Need-returns-2 Inv-moves μ-moves Inv-actions μ-actions
 returns-2 c = search walks
 

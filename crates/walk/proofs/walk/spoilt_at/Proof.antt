@@ -1,3 +1,4 @@
+-- `spoilt_at` meets its contract. No line passed spoils the choice. Assumes nothing.
 use Prim.Native.Nat.{_-_}
 use mathlib.Core.Path.{_≡_}
 use Rattle.theory.specs.Rounds.{spoiltBy}
@@ -6,10 +7,6 @@ use Rattle.walk.specs.Walks.{fallenBy}
 use Rattle.walk.proofs.WalkLaws.{spoiltFrom, walking}
 use Rattle.walk.proofs.walk.spoilt_at.Statement.{statement}
 use Rattle.walk.proofs.walk.spoilt_at.Tie as tie
-use Rattle.walk.proofs.walk.spoilt_at.Reads as reads
-use Rattle.walk.proofs.walk.spoilt_at.Lts as lts
-use Rattle.walk.proofs.walk.choose.Reads as choose-reads
-use Rattle.walk.proofs.walk.spoils.Reads as spoils-reads
 
 abbrev Inv-loop : tie.InvT-loop
 Inv-loop p grid u firsts level marks n k c x line₀ line = spoiltBy (arenaOf p grid u firsts level) (fallenBy n marks) k c ≡ spoiltFrom p grid u level (fallenBy n marks) x line
@@ -17,47 +14,36 @@ Inv-loop p grid u firsts level marks n k c x line₀ line = spoiltBy (arenaOf p 
 abbrev μ-loop : tie.MeasureT-loop
 μ-loop p grid u firsts level marks n k c x line₀ line = x .end - line
 
--- src/walk.rt:163:44
 div-choose : tie.Need-div-choose Inv-loop μ-loop
 div-choose c = search walking
 
--- src/walk.rt:163:61
 rem-choose : tie.Need-rem-choose Inv-loop μ-loop
 rem-choose c = search walking
 
--- src/walk.rt:163:9
 choose-requires : tie.Need-choose-requires Inv-loop μ-loop
 choose-requires c κs = search walking
 
--- src/walk.rt:165:9
 returns : tie.Need-returns Inv-loop μ-loop
 returns c = search walking
 
--- src/walk.rt:168:5
 loop-holds : tie.Need-loop-holds Inv-loop μ-loop
 loop-holds c = search walking
 
--- src/walk.rt:169:12
 spoils-requires : tie.Need-spoils-requires Inv-loop μ-loop
 spoils-requires c κs = search walking
 
--- src/walk.rt:170:13
 returns-2 : tie.Need-returns-2 Inv-loop μ-loop
 returns-2 c = search walking
 
--- src/walk.rt:172:9
 add-line : tie.Need-add-line Inv-loop μ-loop
 add-line c = search walking
 
--- src/walk.rt:168:5
 loop-less : tie.Need-loop-less Inv-loop μ-loop
 loop-less c = search walking
 
--- src/walk.rt:168:5
 loop-again : tie.Need-loop-again Inv-loop μ-loop
 loop-again c = search walking
 
--- src/walk.rt:149:1
 returns-3 : tie.Need-returns-3 Inv-loop μ-loop
 returns-3 c = search walking
 
