@@ -180,4 +180,4 @@ module _ (s : List ℕ) (mb rb : List ℕ) where
 pub part-count : (n : ℕ) (xs : List ℕ) → n ≤ length xs → n ≡ length (take n xs)
 part-count n xs h = sym (length-take-le n xs h)
 
-pub ruleset solving = (needs, refused-text, few-positions, won-masks-room, won-text, lost-ranks-room, lost-text, part-count)
+pub ruleset solving = (needs, refused-text, won-masks-room, won-text, lost-ranks-room, part-count)
