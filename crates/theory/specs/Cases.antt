@@ -78,7 +78,7 @@ turned = gameFrom 2 (0 ∷ 0 ∷ 1 ∷ 2 ∷ 2 ∷ []) (0 ∷ 0 ∷ 4 ∷ 1 ∷ 
 
 -- what each catches: `passing` at 3 a safety test left out on the own position passed and first words of the wrong length, and beside 2
 -- and 4 a delay taken for its neighbour; `chosen` an action tested where it is chosen; `slow`, `struck` and `turned` nodes struck only
--- once and ranks that follow the order of visiting
+-- once and ranks that follow the order of visiting, `struck` at 1 the asked delay named in the place of the least
 unfoldable pub cases : List Case
 cases =
     (case passing 2 (won (1 ∷ 0 ∷ []) (1 ∷ 0 ∷ 0 ∷ 0 ∷ 0 ∷ 0 ∷ 0 ∷ 0 ∷ [])))
@@ -87,5 +87,6 @@ cases =
     ∷ (case chosen 2 (won (0 ∷ 1 ∷ []) (0 ∷ 2 ∷ 0 ∷ 0 ∷ 0 ∷ 0 ∷ 0 ∷ 0 ∷ 0 ∷ 0 ∷ [])))
     ∷ (case slow 3 (lost 3 (0 ∷ 0 ∷ 0 ∷ 0 ∷ 0 ∷ 0 ∷ 4 ∷ 2 ∷ 2 ∷ 3 ∷ [])))
     ∷ (case struck 0 (lost 0 (2 ∷ 3 ∷ 0 ∷ 0 ∷ [])))
+    ∷ (case struck 1 (lost 0 (2 ∷ 3 ∷ 0 ∷ 0 ∷ [])))
     ∷ (case turned 1 (lost 1 (0 ∷ 0 ∷ 0 ∷ 2 ∷ 3 ∷ [])))
     ∷ []

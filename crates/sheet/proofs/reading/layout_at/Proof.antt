@@ -1,47 +1,33 @@
 -- `sheet::reading::layout_at` meets its contract, by the laws of proofs/ReadLaws.antt. Assumes nothing.
 use borrow.Author.Needs.{needs}
 use Rattle.sheet.proofs.ReadLaws.{layout-is}
-use Rattle.sheet.proofs.reading.layout_at.Reads as reads
-use Rattle.sheet.proofs.reading.layout_at.Lts as lts
-use Rattle.sheet.proofs.form.body.Reads as body-reads
-use Rattle.sheet.proofs.form.byte.Reads as byte-reads
-use Rattle.sheet.proofs.form.placed.Reads as placed-reads
 use Rattle.sheet.proofs.reading.layout_at.Statement.{statement}
 use Rattle.sheet.proofs.reading.layout_at.Tie as tie
 
--- src/reading.rt:64:9
 body-requires : tie.Need-body-requires
 body-requires c κs = search needs
 
--- src/reading.rt:65:9
 byte-requires : tie.Need-byte-requires
 byte-requires c κs = search needs
 
--- src/reading.rt:66:9
 byte-requires-2 : tie.Need-byte-requires-2
 byte-requires-2 c κs = search needs
 
--- src/reading.rt:67:9
 byte-requires-3 : tie.Need-byte-requires-3
 byte-requires-3 c κs = search needs
 
--- src/reading.rt:68:9
 placed-requires : tie.Need-placed-requires
 placed-requires c κs = search needs
 
--- src/reading.rt:69:9
 placed-requires-2 : tie.Need-placed-requires-2
 placed-requires-2 c κs = search needs
 
--- src/reading.rt:70:9
 placed-requires-3 : tie.Need-placed-requires-3
 placed-requires-3 c κs = search needs
 
--- src/reading.rt:71:9
 placed-requires-4 : tie.Need-placed-requires-4
 placed-requires-4 c κs = search needs
 
--- src/reading.rt:61:1
 returns : tie.Need-returns
 returns c = search layout-is
 
