@@ -146,6 +146,14 @@ fn limits_of_size() {
     for yard in [ladder(256, 8, 4), ladder(32, 8, 6), ladder(64, 4, 6)] {
         compare(&yard.sheet(), &mut counts);
     }
+    // the last positions of either side without a line of their own
+    let stuck = |position: u8| {
+        let mut yard = ladder(256, 8, 4);
+        yard.targets.retain(|line| line[0] != position);
+        yard.moves.retain(|line| line[0] != position);
+        proved::read(&yard.sheet())
+    };
+    assert_eq!((stuck(254), stuck(255)), (Err(6), Err(6)));
     let wide = Yard { kinds: vec![0; 257], ..sheets::looped() };
     assert_eq!(proved::read(&wide.sheet()), Err(2));
     assert_eq!(proved::read(&full_moves(4096).sheet()).map(|r| r.places[3].1), Ok(8192));
