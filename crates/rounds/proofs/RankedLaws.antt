@@ -10,7 +10,8 @@ use Rattle.theory.proofs.Fold.{both-true, both-none, both-false, failed, passed
 use Rattle.walk.specs.declared.level.Level.{Level}
 use Rattle.walk.specs.Nodes.{Sized, isSized}
 use Rattle.walk.proofs.NodeLaws.{sized-tested, tested-sized}
-use Rattle.rounds.specs.Strikes.{AtMost, isFitted, Ranked}
+use Rattle.rounds.specs.Strikes.{AtMost, lastRound, isFitted, Ranked}
+use Rattle.rounds.proofs.RoundLaws.{last-most}
 
 module _ (positions : ℕ) (l : Level) where
   pub sized-level : {r : Bool} → r ≡ isSized positions l → not r ≡ false → Sized positions l
@@ -30,7 +31,7 @@ module _ (positions : ℕ) (l : Level) where
     ranked-other n = rw (both-false (isSized positions l) _ (ne-eqb entries (l .nodes) n)) (refl, refl)
 
     module _ (after : List ℕ) (n : ℕ) (s : Sized positions l) (e : entries ≡ l .nodes) where
-      pub ranked-all : after ≡ finalRanks E → AtMost n after → Ranked (isFitted positions l entries) E before after n
+      pub ranked-all : after ≡ finalRanks E → n ≡ lastRound after → Ranked (isFitted positions l entries) E before after n
       unfolding Ranked
       ranked-all f m = rw (fitted entries s e) (f, m)
 
@@ -42,6 +43,6 @@ module _ (positions : ℕ) (l : Level) where
 
       pub ranked-number : Ranked (isFitted positions l entries) E before after n → AtMost n after
       unfolding Ranked
-      ranked-number h = (rw (fitted entries s e) at h) .1
+      ranked-number h = let last = (rw (fitted entries s e) at h) .1 in rw last (last-most after)
 
 pub ruleset fitting = (needs, sized-level, ranked-unsized, ranked-other, ranked-all)

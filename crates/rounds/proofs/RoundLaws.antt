@@ -3,7 +3,7 @@
 use Prim.Native.Nat.{ℕ, zero, suc, _+_, _*_, _/_, _≤_, _<_}
 use mathlib.Core.Path.{_≡_, refl, sym, _∙_, ap, fun-ext}
 use mathlib.Core.Bool.{Bool, true, false, not}
-use mathlib.Core.List.{List}
+use mathlib.Core.List.{List, [], _∷_}
 use mathlib.Core.Logic.{_⊎_, ⊎-elim}
 use native.Mathlib.Omega.{arith}
 use native.Mathlib.Numerals.{add-one}
@@ -22,7 +22,7 @@ use Rattle.walk.specs.declared.level.Level.{Level}
 use Rattle.walk.specs.View.{viewOf, levelArena, arenaOf}
 use Rattle.walk.specs.Walks.{fallenBy}
 use Rattle.walk.proofs.NodeLaws.{at-node}
-use Rattle.rounds.specs.Strikes.{rightAt, firstRank, struckBy, strikes, nextRanks, AtMost}
+use Rattle.rounds.specs.Strikes.{rightAt, firstRank, struckBy, strikes, nextRanks, AtMost, lastRound}
 use Rattle.rounds.proofs.Filling.{filled, filled-none, filled-more, filled-keep, filled-done, filled-below, filled-above}
 
 -- sides
@@ -340,6 +340,24 @@ module _ (E : Arena) (n : ℕ) {ranks : List ℕ} (e : ranks ≡ ranksAfter E n)
           (λ (f : fell ranks k ≡ false). ap not f)
           b
 
+-- the last round
+
+last-le : (ranks : List ℕ) (n : ℕ) → 1 ≤ n → AtMost n ranks → lastRound ranks ≤ n
+unfolding lastRound
+last-le [] n h m = h
+last-le (r ∷ ranks) n h m = let a = m 0 in let b = last-le ranks n h (λ k. m (suc k)) in omega arith
+
+pub last-some : (ranks : List ℕ) → 1 ≤ lastRound ranks
+unfolding lastRound
+last-some [] = omega arith
+last-some (r ∷ ranks) = let a = last-some ranks in omega arith
+
+pub last-most : (ranks : List ℕ) → AtMost (lastRound ranks) ranks
+unfolding lastRound
+last-most [] k = omega arith
+last-most (r ∷ ranks) zero = omega arith
+last-most (r ∷ ranks) (suc k) = let a = last-most ranks k in omega arith
+
 -- the same at the number of nodes that the level has
 
 module _ (p : List ℕ) (g : List (List ℕ)) (u f : List ℕ) (l : Level) (s : l .nodes ≡ length p * l .power) (n : ℕ) {ranks now : List ℕ}
@@ -354,8 +372,23 @@ module _ (p : List ℕ) (g : List (List ℕ)) (u f : List ℕ) (l : Level) (s : 
   pub rounds-final : 1 ≤ n → not r ≡ true → now ≡ finalRanks (arenaOf p g u f l)
   rounds-final h t = ranked-final (arenaOf p g u f l) n e h d (struck-here ∙ not-true r t)
 
-  pub rounds-most : 1 ≤ n → not r ≡ true → AtMost n now
-  rounds-most h t = final-most (arenaOf p g u f l) n e h d (struck-here ∙ not-true r t)
+  -- the number of a round in which a node is struck is reached, and the last one's is the largest
+  pub rounds-reach : not r ≡ false → n + 1 ≤ lastRound now
+  rounds-reach t =
+      let E = arenaOf p g u f l in
+      let s = any-some (strikes E n ranks) (E .nodes) (struck-here ∙ not-false r t) in
+      let q : getD now (s .0) 0 ≡ rankIn E n ranks (s .0) = ap (λ (l : List ℕ). getD l (s .0) 0) d ∙ next-at E n ranks (s .0) (s .1) in
+      let z = rank-struck E n ranks (s .0) (s .2) in
+      let m = last-most now (s .0) in
+      omega arith
+
+  pub rounds-last : 1 ≤ n → not r ≡ true → n ≤ lastRound ranks → n ≡ lastRound now
+  rounds-last h t m =
+      let E = arenaOf p g u f l in
+      let a = struck-here ∙ not-true r t in
+      let b = last-le now n h (final-most E n e h d a) in
+      let c : lastRound now ≡ lastRound ranks = ap lastRound (d ∙ same-ranks E n e a) in
+      omega arith
 
   pub rounds-fewer : not r ≡ false → standing now (l .nodes) < standing ranks (l .nodes)
   rounds-fewer t =
@@ -375,4 +408,4 @@ standing-le ranks n = count-le (λ k. not (fell ranks k)) n
 pub first-count : (ranks : List ℕ) (n : ℕ) → 1 + standing ranks n ≤ n + 1
 first-count ranks n = let h = standing-le ranks n in omega arith
 
-pub ruleset allRounds = (needs, first-ranked, first-count, ranked-most, ranked-next, rounds-final, rounds-most, rounds-fewer, rounds-count)
+pub ruleset allRounds = (needs, first-ranked, first-count, ranked-most, ranked-next, last-some, rounds-final, rounds-reach, rounds-last, rounds-fewer, rounds-count)

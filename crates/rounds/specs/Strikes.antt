@@ -1,8 +1,8 @@
 -- One round over the solver's arrays, and what all rounds leave. Assumes nothing.
-use Prim.Native.Nat.{ℕ, _/_, _≤_}
+use Prim.Native.Nat.{ℕ, _/_, _≤_, max}
 use mathlib.Core.Path.{_≡_}
 use mathlib.Core.Bool.{Bool, true, false, not, cond}
-use mathlib.Core.List.{List}
+use mathlib.Core.List.{List, [], _∷_}
 use lib.Dec.{eqb}
 use lib.ListN.{getD}
 use Rattle.theory.specs.Fold.{both, allBelow, tabulate}
@@ -37,11 +37,16 @@ nextRanks E n ranks = tabulate (rankIn E n ranks) 0 (E .nodes)
 abbrev pub AtMost : ℕ → List ℕ → Type 0
 AtMost n ranks = (k : ℕ) → getD ranks k 0 ≤ n
 
+-- the last round in which a node fell, or round 1
+unfoldable pub lastRound : List ℕ → ℕ
+lastRound [] = 1
+lastRound (r ∷ ranks) = max r (lastRound ranks)
+
 -- a level that is small, and a buffer with an entry for each of its nodes
 unfoldable pub isFitted : ℕ → Level → ℕ → Bool
 isFitted positions l entries = both (isSized positions l) (eqb entries (l .nodes))
 
--- what all rounds leave and how many they are: the ranks, none of them over the number; nothing changed and 0 where nothing fits
+-- what all rounds leave, and the number of the last; nothing changed and 0 where level and buffer don't fit
 unfoldable pub Ranked : Bool → Arena → List ℕ → List ℕ → ℕ → Type 0
-Ranked true E before after n = (after ≡ finalRanks E) × (AtMost n after)
+Ranked true E before after n = (after ≡ finalRanks E) × (n ≡ lastRound after)
 Ranked false E before after n = (after ≡ before) × (n ≡ 0)

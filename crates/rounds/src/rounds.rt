@@ -11,7 +11,7 @@ ghost use Rattle.theory.specs.Fold.{anyBelow, tabulate};
 ghost use Rattle.theory.specs.Rounds.{finalRanks};
 ghost use Rattle.walk.specs.View.{arenaOf};
 ghost use Rattle.walk.specs.Nodes.{Sized};
-ghost use Rattle.rounds.specs.Strikes.{rightAt, firstRank, struckBy, strikes, nextRanks, AtMost, isFitted, Ranked};
+ghost use Rattle.rounds.specs.Strikes.{rightAt, firstRank, struckBy, strikes, nextRanks, AtMost, lastRound, isFitted, Ranked};
 
 // Is this position of the side whose nodes can fall?
 pub fn on_right(p: &[u8], odd: bool, q: usize) -> bool
@@ -108,7 +108,7 @@ fn all_rounds(
     ranks: &mut [u16],
 ) -> u16
     requires { ⌜ (Sized (length (now p)) level) × (length (now ranks) ≡ level .nodes) ⌝ }
-    ensures { λ r. ⌜ (now (ranks .exit) ≡ finalRanks (arenaOf (now (p .entry)) (now (grid .entry)) (now (u .entry)) (now (firsts .entry)) level)) × (AtMost r (now (ranks .exit))) ⌝ }
+    ensures { λ r. ⌜ (now (ranks .exit) ≡ finalRanks (arenaOf (now (p .entry)) (now (grid .entry)) (now (u .entry)) (now (firsts .entry)) level)) × (r ≡ lastRound (now (ranks .exit))) ⌝ }
 {
     first_round(p, level, ranks);
     let mut n: u16 = 1;
