@@ -1,4 +1,5 @@
 //! A cabin written by hand: the same checks on every call, over the caller's bytes, and a state with the same fields.
+use crate::hand::bodies;
 
 pub struct Cabin {
     turn: usize,
@@ -20,21 +21,7 @@ fn none_over(bytes: &[u8], top: u8) -> bool {
 }
 
 fn read(sheet: &[u8]) -> Option<Table<'_>> {
-    if sheet.len() < 15 {
-        return None;
-    }
-    let number = |i: usize| sheet[i] as usize + 256 * sheet[i + 1] as usize;
-    let mut at = 15;
-    let mut bodies = [&sheet[..0]; 3];
-    for (k, letter) in b"SWT".iter().enumerate() {
-        let size = number(5 * k + 3);
-        if sheet[5 * k] != *letter || number(5 * k + 1) != at || sheet.len() < at + size {
-            return None;
-        }
-        bodies[k] = &sheet[at..at + size];
-        at += size;
-    }
-    let [s, words, masks] = bodies;
+    let ([s, words, masks], at) = bodies(sheet, b"SWT")?;
     if at != sheet.len() || s.len() != 4 || s[1] < 1 || s[1] > 8 || s[2] > 6 || s[0] > s[3] {
         return None;
     }

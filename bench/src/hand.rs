@@ -13,15 +13,15 @@ pub struct Hand {
 
 const ABSENT: u16 = 256;
 
-/// The bodies of a sheet that passes checks 1 to 7.
-fn read(sheet: &[u8]) -> Option<[&[u8]; 4]> {
-    if sheet.len() < 20 {
+/// The bodies of a sheet whose contents are right but for its end, and where the last one ends.
+pub fn bodies<'a, const N: usize>(sheet: &'a [u8], letters: &[u8; N]) -> Option<([&'a [u8]; N], usize)> {
+    if sheet.len() < 5 * N {
         return None;
     }
     let number = |i: usize| sheet[i] as usize + 256 * sheet[i + 1] as usize;
-    let mut at = 20;
-    let mut bodies = [&sheet[..0]; 4];
-    for (k, letter) in b"SPCU".iter().enumerate() {
+    let mut at = 5 * N;
+    let mut bodies = [&sheet[..0]; N];
+    for (k, letter) in letters.iter().enumerate() {
         let size = number(5 * k + 3);
         if sheet[5 * k] != *letter || number(5 * k + 1) != at || sheet.len() < at + size {
             return None;
@@ -29,6 +29,12 @@ fn read(sheet: &[u8]) -> Option<[&[u8]; 4]> {
         bodies[k] = &sheet[at..at + size];
         at += size;
     }
+    Some((bodies, at))
+}
+
+/// The bodies of a sheet that passes checks 1 to 7.
+fn read(sheet: &[u8]) -> Option<[&[u8]; 4]> {
+    let (bodies, at) = bodies(sheet, b"SPCU")?;
     let [s, p, c, u] = bodies;
     let own = |q: u8| p.get(q as usize).is_some_and(|&kind| kind < 2);
     let other = |q: u8| p.get(q as usize).is_some_and(|&kind| kind >= 2);

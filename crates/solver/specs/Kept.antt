@@ -11,6 +11,7 @@ use Rattle.walk.specs.View.{cellAt}
 use Rattle.walk.specs.Walks.{fallenBy}
 use Rattle.rounds.specs.Strikes.{rightAt}
 
+-- "A pair of the right side that never falls is kept"
 unfoldable pub keptIn : List ℕ → Level → List ℕ → ℕ → Bool
 keptIn p l ranks k = both (rightAt (l .odd) p (k / l .power)) (not (fell ranks k))
 

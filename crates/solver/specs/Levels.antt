@@ -10,6 +10,7 @@ use Rattle.sheet.specs.Limits.{mostPositions, mostActions, mostNodes}
 use Rattle.sheet.specs.Checks.{nodesOf}
 use Rattle.walk.specs.declared.level.Level.{Level}
 
+-- line i of the U body is of a position below q
 unfoldable pub fromBelow : List ℕ → ℕ → ℕ → Bool
 fromBelow u q i = ltb (getD u (2 * i) 0) q
 
@@ -29,6 +30,7 @@ pub record Room (positions actions delay : ℕ) : Type 0 where
   pub few-actions : actions ≤ mostActions
   pub few-nodes : nodesOf positions actions delay ≤ mostNodes
 
+-- the numbers of a delay: "positions × A^L" pairs, A^L words pending at each position
 abbrev pub levelAt : ℕ → ℕ → ℕ → ℕ → Level
 levelAt positions start actions delay =
     record {

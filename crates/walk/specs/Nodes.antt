@@ -26,5 +26,6 @@ isSized positions l =
     (both (leb (l .nodes) mostNodes)
     (eqb (l .nodes) (positions * l .power))))))
 
+-- k is the number of a pair of that level
 unfoldable pub isNode : ℕ → Level → ℕ → Bool
 isNode positions l k = both (isSized positions l) (ltb k (l .nodes))
