@@ -3,11 +3,5 @@ use Rattle.controller.proofs.CommandLaws.{mask-laws}
 use Rattle.controller.proofs.commands.lowest.Statement.{statement}
 use Rattle.controller.proofs.commands.lowest.Tie as tie
 
-cast-result : tie.Need-cast-result
-cast-result c = search mask-laws
-
-returns : tie.Need-returns
-returns c = search mask-laws
-
 pub lowest-spec : {M : Type 1} → statement M
-lowest-spec = tie.close (tie.spec cast-result returns)
+lowest-spec = tie.close (tie.spec (λ c. search mask-laws) (λ c. search mask-laws))

@@ -4,15 +4,9 @@ use Rattle.maker.specs.Making.{headerBytes}
 use Rattle.maker.proofs.making.header.Statement.{statement}
 use Rattle.maker.proofs.making.header.Tie as tie
 
-sub-highest : tie.Need-sub-highest
-sub-highest c = search needs
-
-cast-highest : tie.Need-cast-highest
-cast-highest c = search needs
-
 returns : tie.Need-returns
 unfolding headerBytes
 returns c = search needs
 
 pub header-spec : {M : Type 1} → statement M
-header-spec = tie.close (tie.spec sub-highest cast-highest returns)
+header-spec = tie.close (tie.spec (λ c. search needs) (λ c. search needs) returns)

@@ -21,41 +21,9 @@ Inv-loop p grid u firsts level ranks₀ n₀ ranks n =
 abbrev μ-loop : tie.MeasureT-loop
 μ-loop p grid u firsts level ranks₀ n₀ ranks n = standing ranks (level .nodes)
 
-first-round-requires : tie.Need-first-round-requires Inv-loop μ-loop
-first-round-requires c κs = search allRounds
-
-loop-holds : tie.Need-loop-holds Inv-loop μ-loop
-loop-holds c = search allRounds
-
-round-requires : tie.Need-round-requires Inv-loop μ-loop
-round-requires c κs = search allRounds
-
-add-n : tie.Need-add-n Inv-loop μ-loop
-add-n c = search allRounds
-
-loop-less : tie.Need-loop-less Inv-loop μ-loop
-loop-less c = search allRounds
-
-loop-again : tie.Need-loop-again Inv-loop μ-loop
-loop-again c = search allRounds
-
-same-length : tie.Need-same-length Inv-loop μ-loop
-same-length c = search allRounds
-
-returns : tie.Need-returns Inv-loop μ-loop
-returns c = search allRounds
-
 pub all-rounds-spec : {M : Type 1} → statement M
 all-rounds-spec =
     tie.close
-    (tie.spec
-    Inv-loop
-    μ-loop
-    first-round-requires
-    loop-holds
-    round-requires
-    add-n
-    loop-less
-    loop-again
-    same-length
-    returns)
+    (tie.spec Inv-loop μ-loop (λ c κs. search allRounds) (λ c. search allRounds) (λ c κs. search allRounds)
+    (λ c. search allRounds) (λ c. search allRounds) (λ c. search allRounds) (λ c. search allRounds)
+    (λ c. search allRounds))

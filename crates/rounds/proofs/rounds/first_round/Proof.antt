@@ -14,45 +14,9 @@ Inv-loop p level ranks₀ k₀ ranks k = (k ≤ level .nodes) × (length ranks �
 abbrev μ-loop : tie.MeasureT-loop
 μ-loop p level ranks₀ k₀ ranks k = level .nodes - k
 
-loop-holds : tie.Need-loop-holds Inv-loop μ-loop
-loop-holds c = search filling
-
-first-rank-requires : tie.Need-first-rank-requires Inv-loop μ-loop
-first-rank-requires c κs = search filling
-
-mul-ranks : tie.Need-mul-ranks Inv-loop μ-loop
-mul-ranks c = search filling
-
-slice-write-ranks : tie.Need-slice-write-ranks Inv-loop μ-loop
-slice-write-ranks c = search filling
-
-add-k : tie.Need-add-k Inv-loop μ-loop
-add-k c = search filling
-
-loop-less : tie.Need-loop-less Inv-loop μ-loop
-loop-less c = search filling
-
-loop-again : tie.Need-loop-again Inv-loop μ-loop
-loop-again c = search filling
-
-same-length : tie.Need-same-length Inv-loop μ-loop
-same-length c = search filling
-
-returns : tie.Need-returns Inv-loop μ-loop
-returns c = search filling
-
 pub first-round-spec : {M : Type 1} → statement M
 first-round-spec =
     tie.close
-    (tie.spec
-    Inv-loop
-    μ-loop
-    loop-holds
-    first-rank-requires
-    mul-ranks
-    slice-write-ranks
-    add-k
-    loop-less
-    loop-again
-    same-length
-    returns)
+    (tie.spec Inv-loop μ-loop (λ c. search filling) (λ c κs. search filling) (λ c. search filling)
+    (λ c. search filling) (λ c. search filling) (λ c. search filling) (λ c. search filling) (λ c. search filling)
+    (λ c. search filling))

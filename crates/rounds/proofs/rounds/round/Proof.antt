@@ -23,27 +23,6 @@ Inv-loop p grid u firsts level ranks₀ n any₀ k₀ ranks any k =
 abbrev μ-loop : tie.MeasureT-loop
 μ-loop p grid u firsts level ranks₀ n any₀ k₀ ranks any k = level .nodes - k
 
-loop-holds : tie.Need-loop-holds Inv-loop μ-loop
-loop-holds c = search rounding
-
-struck-requires : tie.Need-struck-requires Inv-loop μ-loop
-struck-requires c κs = search rounding
-
-add-ranks : tie.Need-add-ranks Inv-loop μ-loop
-add-ranks c = search rounding
-
-mul-ranks : tie.Need-mul-ranks Inv-loop μ-loop
-mul-ranks c = search rounding
-
-slice-write-ranks : tie.Need-slice-write-ranks Inv-loop μ-loop
-slice-write-ranks c = search rounding
-
-add-k : tie.Need-add-k Inv-loop μ-loop
-add-k c = search rounding
-
-loop-less : tie.Need-loop-less Inv-loop μ-loop
-loop-less c = search rounding
-
 loop-again : tie.Need-loop-again Inv-loop μ-loop
 loop-again c =
     let i = c .before .before .before .before .before .before .before .before .before .pre in
@@ -64,25 +43,9 @@ loop-again c =
     ))
     (c .if2 .came)
 
-same-length : tie.Need-same-length Inv-loop μ-loop
-same-length c = search rounding
-
-returns : tie.Need-returns Inv-loop μ-loop
-returns c = search rounding
-
 pub round-spec : {M : Type 1} → statement M
 round-spec =
     tie.close
-    (tie.spec
-    Inv-loop
-    μ-loop
-    loop-holds
-    struck-requires
-    add-ranks
-    mul-ranks
-    slice-write-ranks
-    add-k
-    loop-less
-    loop-again
-    same-length
-    returns)
+    (tie.spec Inv-loop μ-loop (λ c. search rounding) (λ c κs. search rounding) (λ c. search rounding)
+    (λ c. search rounding) (λ c. search rounding) (λ c. search rounding) (λ c. search rounding) loop-again
+    (λ c. search rounding) (λ c. search rounding))

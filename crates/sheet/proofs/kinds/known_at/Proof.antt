@@ -3,20 +3,5 @@ use Rattle.sheet.proofs.KindLaws.{kinds}
 use Rattle.sheet.proofs.kinds.known_at.Statement.{statement}
 use Rattle.sheet.proofs.kinds.known_at.Tie as tie
 
-kind-at-requires : tie.Need-kind-at-requires
-kind-at-requires c κs = search kinds
-
-enum-told : tie.Need-enum-told
-enum-told c = search kinds
-
-enum-told-2 : tie.Need-enum-told-2
-enum-told-2 c = search kinds
-
-returns : tie.Need-returns
-returns c = search kinds
-
-returns-2 : tie.Need-returns-2
-returns-2 c = search kinds
-
 pub known-at-spec : {M : Type 1} → statement M
-known-at-spec = tie.close (tie.spec kind-at-requires enum-told enum-told-2 returns returns-2)
+known-at-spec = tie.close (tie.spec (λ c κs. search kinds) (λ c. search kinds) (λ c. search kinds) (λ c. search kinds) (λ c. search kinds))

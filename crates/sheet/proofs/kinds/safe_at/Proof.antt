@@ -3,20 +3,5 @@ use Rattle.sheet.proofs.KindLaws.{kinds}
 use Rattle.sheet.proofs.kinds.safe_at.Statement.{statement}
 use Rattle.sheet.proofs.kinds.safe_at.Tie as tie
 
-kind-at-requires : tie.Need-kind-at-requires
-kind-at-requires c κs = search kinds
-
-enum-known-safe : tie.Need-enum-known-safe
-enum-known-safe c = search kinds
-
-enum-told : tie.Need-enum-told
-enum-told c = search kinds
-
-returns : tie.Need-returns
-returns c = search kinds
-
-returns-2 : tie.Need-returns-2
-returns-2 c = search kinds
-
 pub safe-at-spec : {M : Type 1} → statement M
-safe-at-spec = tie.close (tie.spec kind-at-requires enum-known-safe enum-told returns returns-2)
+safe-at-spec = tie.close (tie.spec (λ c κs. search kinds) (λ c. search kinds) (λ c. search kinds) (λ c. search kinds) (λ c. search kinds))

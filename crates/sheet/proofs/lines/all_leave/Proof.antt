@@ -16,45 +16,9 @@ Inv-loop p c u targets moves n q₀ q = (q ≤ length p) × (allBelow (leavesAt 
 abbrev μ-loop : tie.MeasureT-loop
 μ-loop p c u targets moves n q₀ q = length p - q
 
-begun-requires : tie.Need-begun-requires Inv-loop μ-loop
-begun-requires c κs = search leaving
-
-begun-requires-2 : tie.Need-begun-requires-2 Inv-loop μ-loop
-begun-requires-2 c κs = search leaving
-
-loop-holds : tie.Need-loop-holds Inv-loop μ-loop
-loop-holds c = search leaving
-
-leaves-at-requires : tie.Need-leaves-at-requires Inv-loop μ-loop
-leaves-at-requires c κs = search leaving
-
-returns : tie.Need-returns Inv-loop μ-loop
-returns c = search leaving
-
-add-q : tie.Need-add-q Inv-loop μ-loop
-add-q c = search leaving
-
-loop-less : tie.Need-loop-less Inv-loop μ-loop
-loop-less c = search leaving
-
-loop-again : tie.Need-loop-again Inv-loop μ-loop
-loop-again c = search leaving
-
-returns-2 : tie.Need-returns-2 Inv-loop μ-loop
-returns-2 c = search leaving
-
 pub all-leave-spec : {M : Type 1} → statement M
 all-leave-spec =
     tie.close
-    (tie.spec
-    Inv-loop
-    μ-loop
-    begun-requires
-    begun-requires-2
-    loop-holds
-    leaves-at-requires
-    returns
-    add-q
-    loop-less
-    loop-again
-    returns-2)
+    (tie.spec Inv-loop μ-loop (λ c κs. search leaving) (λ c κs. search leaving) (λ c. search leaving)
+    (λ c κs. search leaving) (λ c. search leaving) (λ c. search leaving) (λ c. search leaving) (λ c. search leaving)
+    (λ c. search leaving))

@@ -14,9 +14,6 @@ Inv-loop width b n begun₀ k₀ begun k = (k ≤ n) × (begun ≡ tabulate (has
 abbrev μ-loop : tie.MeasureT-loop
 μ-loop width b n begun₀ k₀ begun k = n - k
 
-loop-holds : tie.Need-loop-holds Inv-loop μ-loop
-loop-holds c = search beginning
-
 mul-wide : tie.Need-mul-wide Inv-loop μ-loop
 mul-wide c = omega (arith, line-within _ _ _ (c .before .before .before .pre .0) (c .loop-test .taken))
 
@@ -24,36 +21,9 @@ shared-slice-read-wide : tie.Need-shared-slice-read-wide Inv-loop μ-loop
 shared-slice-read-wide c =
     omega (arith, line-within _ _ _ (c .before .before .before .before .pre .0) (c .before .loop-test .taken))
 
-wide-requires : tie.Need-wide-requires Inv-loop μ-loop
-wide-requires c κs = search beginning
-
-array-write-begun : tie.Need-array-write-begun Inv-loop μ-loop
-array-write-begun c = search beginning
-
-add-k : tie.Need-add-k Inv-loop μ-loop
-add-k c = search beginning
-
-loop-less : tie.Need-loop-less Inv-loop μ-loop
-loop-less c = search beginning
-
-loop-again : tie.Need-loop-again Inv-loop μ-loop
-loop-again c = search beginning
-
-returns : tie.Need-returns Inv-loop μ-loop
-returns c = search beginning
-
 pub begun-spec : {M : Type 1} → statement M
 begun-spec =
     tie.close
-    (tie.spec
-    Inv-loop
-    μ-loop
-    loop-holds
-    mul-wide
-    shared-slice-read-wide
-    wide-requires
-    array-write-begun
-    add-k
-    loop-less
-    loop-again
-    returns)
+    (tie.spec Inv-loop μ-loop (λ c. search beginning) mul-wide shared-slice-read-wide (λ c κs. search beginning)
+    (λ c. search beginning) (λ c. search beginning) (λ c. search beginning) (λ c. search beginning)
+    (λ c. search beginning))

@@ -14,41 +14,11 @@ Inv-loop base exponent r₀ i₀ r i = (i ≤ exponent) × (r ≡ base ^ i) × (
 abbrev μ-loop : tie.MeasureT-loop
 μ-loop base exponent r₀ i₀ r i = exponent - i
 
-loop-holds : tie.Need-loop-holds Inv-loop μ-loop
-loop-holds c = search powers
-
-wide-requires : tie.Need-wide-requires Inv-loop μ-loop
-wide-requires c κs = search powers
-
 mul-r : tie.Need-mul-r Inv-loop μ-loop
 mul-r c = omega (arith, product-small (c .before .before .loop .inv .2) (c .wide .ensures .0) (c .wide .ensures .1))
-
-returns : tie.Need-returns Inv-loop μ-loop
-returns c = search powers
-
-add-i : tie.Need-add-i Inv-loop μ-loop
-add-i c = search powers
-
-loop-less : tie.Need-loop-less Inv-loop μ-loop
-loop-less c = search powers
-
-loop-again : tie.Need-loop-again Inv-loop μ-loop
-loop-again c = search powers
-
-returns-2 : tie.Need-returns-2 Inv-loop μ-loop
-returns-2 c = search powers
 
 pub power-spec : {M : Type 1} → statement M
 power-spec =
     tie.close
-    (tie.spec
-    Inv-loop
-    μ-loop
-    loop-holds
-    wide-requires
-    mul-r
-    returns
-    add-i
-    loop-less
-    loop-again
-    returns-2)
+    (tie.spec Inv-loop μ-loop (λ c. search powers) (λ c κs. search powers) mul-r (λ c. search powers)
+    (λ c. search powers) (λ c. search powers) (λ c. search powers) (λ c. search powers))

@@ -14,24 +14,6 @@ Inv-loop p grid u firsts level ranks n k mask₀ bit₀ c₀ mask bit c = (c ≤
 abbrev μ-loop : tie.MeasureT-loop
 μ-loop p grid u firsts level ranks n k mask₀ bit₀ c₀ mask bit c = level .actions - c
 
-loop-holds : tie.Need-loop-holds Inv-loop μ-loop
-loop-holds c = search bits
-
-spoilt-requires : tie.Need-spoilt-requires Inv-loop μ-loop
-spoilt-requires c κs = search bits
-
-add-mask : tie.Need-add-mask Inv-loop μ-loop
-add-mask c = search bits
-
-mul-bit : tie.Need-mul-bit Inv-loop μ-loop
-mul-bit c = search bits
-
-add-c : tie.Need-add-c Inv-loop μ-loop
-add-c c = search bits
-
-loop-less : tie.Need-loop-less Inv-loop μ-loop
-loop-less c = search bits
-
 loop-again : tie.Need-loop-again Inv-loop μ-loop
 loop-again c =
     let l = c .before .before .before .before .loop in
@@ -51,24 +33,8 @@ loop-again c =
     ))
     (c .if2 .came)
 
-cast-result : tie.Need-cast-result Inv-loop μ-loop
-cast-result c = search bits
-
-returns : tie.Need-returns Inv-loop μ-loop
-returns c = search bits
-
 pub allowed-spec : {M : Type 1} → statement M
 allowed-spec =
     tie.close
-    (tie.spec
-    Inv-loop
-    μ-loop
-    loop-holds
-    spoilt-requires
-    add-mask
-    mul-bit
-    add-c
-    loop-less
-    loop-again
-    cast-result
-    returns)
+    (tie.spec Inv-loop μ-loop (λ c. search bits) (λ c κs. search bits) (λ c. search bits) (λ c. search bits)
+    (λ c. search bits) (λ c. search bits) loop-again (λ c. search bits) (λ c. search bits))

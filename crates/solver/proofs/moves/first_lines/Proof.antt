@@ -18,45 +18,12 @@ Inv-loop u firsts₀ line₀ q₀ firsts line q =
 abbrev μ-loop : tie.MeasureT-loop
 μ-loop u firsts₀ line₀ q₀ firsts line q = 257 - q
 
-loop-holds : tie.Need-loop-holds Inv-loop μ-loop
-loop-holds c = search indexing
-
-skip-below-requires : tie.Need-skip-below-requires Inv-loop μ-loop
-skip-below-requires c κs = search indexing
-
 cast-firsts : tie.Need-cast-firsts Inv-loop μ-loop
 cast-firsts c = omega (arith, index-inside _ _ (c .skip-below .ensures))
-
-mul-firsts : tie.Need-mul-firsts Inv-loop μ-loop
-mul-firsts c = search indexing
-
-array-write-firsts : tie.Need-array-write-firsts Inv-loop μ-loop
-array-write-firsts c = search indexing
-
-add-q : tie.Need-add-q Inv-loop μ-loop
-add-q c = search indexing
-
-loop-less : tie.Need-loop-less Inv-loop μ-loop
-loop-less c = search indexing
-
-loop-again : tie.Need-loop-again Inv-loop μ-loop
-loop-again c = search indexing
-
-returns : tie.Need-returns Inv-loop μ-loop
-returns c = search indexing
 
 pub first-lines-spec : {M : Type 1} → statement M
 first-lines-spec =
     tie.close
-    (tie.spec
-    Inv-loop
-    μ-loop
-    loop-holds
-    skip-below-requires
-    cast-firsts
-    mul-firsts
-    array-write-firsts
-    add-q
-    loop-less
-    loop-again
-    returns)
+    (tie.spec Inv-loop μ-loop (λ c. search indexing) (λ c κs. search indexing) cast-firsts (λ c. search indexing)
+    (λ c. search indexing) (λ c. search indexing) (λ c. search indexing) (λ c. search indexing)
+    (λ c. search indexing))

@@ -14,45 +14,9 @@ Inv-loop p grid level ranks flags₀ n v₀ flags v = (v ≤ n) × (length flags
 abbrev μ-loop : tie.MeasureT-loop
 μ-loop p grid level ranks flags₀ n v₀ flags v = n - v
 
-first-words-requires : tie.Need-first-words-requires Inv-loop μ-loop
-first-words-requires c κs = search all-flags
-
-loop-holds : tie.Need-loop-holds Inv-loop μ-loop
-loop-holds c = search all-flags
-
-flag-requires : tie.Need-flag-requires Inv-loop μ-loop
-flag-requires c κs = search all-flags
-
-slice-write-flags : tie.Need-slice-write-flags Inv-loop μ-loop
-slice-write-flags c = search all-flags
-
-add-v : tie.Need-add-v Inv-loop μ-loop
-add-v c = search all-flags
-
-loop-less : tie.Need-loop-less Inv-loop μ-loop
-loop-less c = search all-flags
-
-loop-again : tie.Need-loop-again Inv-loop μ-loop
-loop-again c = search all-flags
-
-same-length : tie.Need-same-length Inv-loop μ-loop
-same-length c = search all-flags
-
-returns : tie.Need-returns Inv-loop μ-loop
-returns c = search all-flags
-
 pub fill-flags-spec : {M : Type 1} → statement M
 fill-flags-spec =
     tie.close
-    (tie.spec
-    Inv-loop
-    μ-loop
-    first-words-requires
-    loop-holds
-    flag-requires
-    slice-write-flags
-    add-v
-    loop-less
-    loop-again
-    same-length
-    returns)
+    (tie.spec Inv-loop μ-loop (λ c κs. search all-flags) (λ c. search all-flags) (λ c κs. search all-flags)
+    (λ c. search all-flags) (λ c. search all-flags) (λ c. search all-flags) (λ c. search all-flags)
+    (λ c. search all-flags) (λ c. search all-flags))

@@ -14,41 +14,9 @@ Inv-loop p grid level ranks n v₀ v = (v ≤ n) × (anyBelow (goodIn p grid lev
 abbrev μ-loop : tie.MeasureT-loop
 μ-loop p grid level ranks n v₀ v = n - v
 
-first-words-requires : tie.Need-first-words-requires Inv-loop μ-loop
-first-words-requires c κs = search searching
-
-loop-holds : tie.Need-loop-holds Inv-loop μ-loop
-loop-holds c = search searching
-
-good-requires : tie.Need-good-requires Inv-loop μ-loop
-good-requires c κs = search searching
-
-returns : tie.Need-returns Inv-loop μ-loop
-returns c = search searching
-
-add-v : tie.Need-add-v Inv-loop μ-loop
-add-v c = search searching
-
-loop-less : tie.Need-loop-less Inv-loop μ-loop
-loop-less c = search searching
-
-loop-again : tie.Need-loop-again Inv-loop μ-loop
-loop-again c = search searching
-
-returns-2 : tie.Need-returns-2 Inv-loop μ-loop
-returns-2 c = search searching
-
 pub some-good-spec : {M : Type 1} → statement M
 some-good-spec =
     tie.close
-    (tie.spec
-    Inv-loop
-    μ-loop
-    first-words-requires
-    loop-holds
-    good-requires
-    returns
-    add-v
-    loop-less
-    loop-again
-    returns-2)
+    (tie.spec Inv-loop μ-loop (λ c κs. search searching) (λ c. search searching) (λ c κs. search searching)
+    (λ c. search searching) (λ c. search searching) (λ c. search searching) (λ c. search searching)
+    (λ c. search searching))

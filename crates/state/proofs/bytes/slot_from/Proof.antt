@@ -3,8 +3,5 @@ use Rattle.state.proofs.ByteLaws.{parts}
 use Rattle.state.proofs.bytes.slot_from.Statement.{statement}
 use Rattle.state.proofs.bytes.slot_from.Tie as tie
 
-returns : tie.Need-returns
-returns c = search parts
-
 pub slot-from-spec : {M : Type 1} → statement M
-slot-from-spec = tie.close (tie.spec returns)
+slot-from-spec = tie.close (tie.spec (λ c. search parts))

@@ -14,37 +14,8 @@ Inv-loop highest window n k₀ k = (k ≤ n) × (allBelow (withinAt highest wind
 abbrev μ-loop : tie.MeasureT-loop
 μ-loop highest window n k₀ k = n - k
 
-loop-holds : tie.Need-loop-holds Inv-loop μ-loop
-loop-holds c = search check-laws
-
-within-at-requires : tie.Need-within-at-requires Inv-loop μ-loop
-within-at-requires c κs = search check-laws
-
-returns : tie.Need-returns Inv-loop μ-loop
-returns c = search check-laws
-
-add-k : tie.Need-add-k Inv-loop μ-loop
-add-k c = search check-laws
-
-loop-less : tie.Need-loop-less Inv-loop μ-loop
-loop-less c = search check-laws
-
-loop-again : tie.Need-loop-again Inv-loop μ-loop
-loop-again c = search check-laws
-
-returns-2 : tie.Need-returns-2 Inv-loop μ-loop
-returns-2 c = search check-laws
-
 pub window-ok-spec : {M : Type 1} → statement M
 window-ok-spec =
     tie.close
-    (tie.spec
-    Inv-loop
-    μ-loop
-    loop-holds
-    within-at-requires
-    returns
-    add-k
-    loop-less
-    loop-again
-    returns-2)
+    (tie.spec Inv-loop μ-loop (λ c. search check-laws) (λ c κs. search check-laws) (λ c. search check-laws)
+    (λ c. search check-laws) (λ c. search check-laws) (λ c. search check-laws) (λ c. search check-laws))

@@ -16,18 +16,6 @@ Inv-loop top b all₀ k₀ all k = (k ≤ length b) × (all ≡ allBelow (belowA
 abbrev μ-loop : tie.MeasureT-loop
 μ-loop top b all₀ k₀ all k = length b - k
 
-loop-holds : tie.Need-loop-holds Inv-loop μ-loop
-loop-holds c = search below
-
-shared-slice-read-if1 : tie.Need-shared-slice-read-if1 Inv-loop μ-loop
-shared-slice-read-if1 c = search below
-
-add-k : tie.Need-add-k Inv-loop μ-loop
-add-k c = search below
-
-loop-less : tie.Need-loop-less Inv-loop μ-loop
-loop-less c = search below
-
 loop-again : tie.Need-loop-again Inv-loop μ-loop
 loop-again c =
     let l = c .before .before .before .loop in
@@ -36,10 +24,7 @@ loop-again c =
     (λ w. (search below, w .1 ∙ below-same _ _ (l .k) _ (l .inv .1) (w .0 .left)))
     (c .if1 .came)
 
-returns : tie.Need-returns Inv-loop μ-loop
-returns c = search below
-
 pub bytes-below-spec : {M : Type 1} → statement M
 bytes-below-spec =
     tie.close
-    (tie.spec Inv-loop μ-loop loop-holds shared-slice-read-if1 add-k loop-less loop-again returns)
+    (tie.spec Inv-loop μ-loop (λ c. search below) (λ c. search below) (λ c. search below) (λ c. search below) loop-again (λ c. search below))

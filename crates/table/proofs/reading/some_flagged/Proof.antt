@@ -16,37 +16,8 @@ Inv-loop w v₀ v = (v ≤ length w) × (anyBelow (flagged (record { flags = w; 
 abbrev μ-loop : tie.MeasureT-loop
 μ-loop w v₀ v = length w - v
 
-loop-holds : tie.Need-loop-holds Inv-loop μ-loop
-loop-holds c = search flags
-
-shared-slice-read-if1 : tie.Need-shared-slice-read-if1 Inv-loop μ-loop
-shared-slice-read-if1 c = search flags
-
-returns : tie.Need-returns Inv-loop μ-loop
-returns c = search flags
-
-add-v : tie.Need-add-v Inv-loop μ-loop
-add-v c = search flags
-
-loop-less : tie.Need-loop-less Inv-loop μ-loop
-loop-less c = search flags
-
-loop-again : tie.Need-loop-again Inv-loop μ-loop
-loop-again c = search flags
-
-returns-2 : tie.Need-returns-2 Inv-loop μ-loop
-returns-2 c = search flags
-
 pub some-flagged-spec : {M : Type 1} → statement M
 some-flagged-spec =
     tie.close
-    (tie.spec
-    Inv-loop
-    μ-loop
-    loop-holds
-    shared-slice-read-if1
-    returns
-    add-v
-    loop-less
-    loop-again
-    returns-2)
+    (tie.spec Inv-loop μ-loop (λ c. search flags) (λ c. search flags) (λ c. search flags) (λ c. search flags)
+    (λ c. search flags) (λ c. search flags) (λ c. search flags))

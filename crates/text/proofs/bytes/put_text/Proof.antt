@@ -12,27 +12,9 @@ Inv-loop out₀ at text to₀ k₀ out to k = Along (byteAt text) (length text) 
 abbrev μ-loop : tie.MeasureT-loop
 μ-loop out₀ at text to₀ k₀ out to k = length text - k
 
-loop-holds : tie.Need-loop-holds Inv-loop μ-loop
-loop-holds c = search begins
-
-shared-slice-read-put-byte : tie.Need-shared-slice-read-put-byte Inv-loop μ-loop
-shared-slice-read-put-byte c = search needs
-
-put-byte-requires : tie.Need-put-byte-requires Inv-loop μ-loop
-put-byte-requires c κs = search needs
-
-add-k : tie.Need-add-k Inv-loop μ-loop
-add-k c = search needs
-
-loop-less : tie.Need-loop-less Inv-loop μ-loop
-loop-less c = search needs
-
 loop-again : tie.Need-loop-again Inv-loop μ-loop
 unfolding byteAt
 loop-again c = search goes-on
-
-same-length : tie.Need-same-length Inv-loop μ-loop
-same-length c = search needs
 
 returns : tie.Need-returns Inv-loop μ-loop
 returns c = search (ends, text-is)
@@ -40,14 +22,5 @@ returns c = search (ends, text-is)
 pub put-text-spec : {M : Type 1} → statement M
 put-text-spec =
     tie.close
-    (tie.spec
-    Inv-loop
-    μ-loop
-    loop-holds
-    shared-slice-read-put-byte
-    put-byte-requires
-    add-k
-    loop-less
-    loop-again
-    same-length
-    returns)
+    (tie.spec Inv-loop μ-loop (λ c. search begins) (λ c. search needs) (λ c κs. search needs) (λ c. search needs)
+    (λ c. search needs) loop-again (λ c. search needs) returns)

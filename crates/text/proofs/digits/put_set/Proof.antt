@@ -12,24 +12,6 @@ Inv-loop out₀ at actions mask to₀ c₀ out to c = Along (actionText mask) ac
 abbrev μ-loop : tie.MeasureT-loop
 μ-loop out₀ at actions mask to₀ c₀ out to c = actions - c
 
-loop-holds : tie.Need-loop-holds Inv-loop μ-loop
-loop-holds c = search begins
-
-put-action-requires : tie.Need-put-action-requires Inv-loop μ-loop
-put-action-requires c κs = search needs
-
-add-c : tie.Need-add-c Inv-loop μ-loop
-add-c c = search needs
-
-loop-less : tie.Need-loop-less Inv-loop μ-loop
-loop-less c = search needs
-
-loop-again : tie.Need-loop-again Inv-loop μ-loop
-loop-again c = search goes-on
-
-same-length : tie.Need-same-length Inv-loop μ-loop
-same-length c = search needs
-
 returns : tie.Need-returns Inv-loop μ-loop
 unfolding setText
 returns c = search ends
@@ -37,13 +19,5 @@ returns c = search ends
 pub put-set-spec : {M : Type 1} → statement M
 put-set-spec =
     tie.close
-    (tie.spec
-    Inv-loop
-    μ-loop
-    loop-holds
-    put-action-requires
-    add-c
-    loop-less
-    loop-again
-    same-length
-    returns)
+    (tie.spec Inv-loop μ-loop (λ c. search begins) (λ c κs. search needs) (λ c. search needs) (λ c. search needs)
+    (λ c. search goes-on) (λ c. search needs) returns)

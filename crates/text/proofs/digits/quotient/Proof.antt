@@ -10,8 +10,5 @@ returns c = search (needs, quotient-none)
 div-result : tie.Need-div-result
 div-result c = search (needs, quotient-none)
 
-returns-2 : tie.Need-returns-2
-returns-2 c = search needs
-
 pub quotient-spec : {M : Type 1} → statement M
-quotient-spec = tie.close (tie.spec returns div-result returns-2)
+quotient-spec = tie.close (tie.spec returns div-result (λ c. search needs))

@@ -10,8 +10,5 @@ returns c = search (needs, remainder-none)
 rem-result : tie.Need-rem-result
 rem-result c = search (needs, remainder-none)
 
-returns-2 : tie.Need-returns-2
-returns-2 c = search needs
-
 pub remainder-spec : {M : Type 1} → statement M
-remainder-spec = tie.close (tie.spec returns rem-result returns-2)
+remainder-spec = tie.close (tie.spec returns rem-result (λ c. search needs))

@@ -15,15 +15,6 @@ abbrev μ-loop : tie.MeasureT-loop
 loop-holds : tie.Need-loop-holds Inv-loop μ-loop
 loop-holds c = search (needs, last-start)
 
-quotient-requires : tie.Need-quotient-requires Inv-loop μ-loop
-quotient-requires c κs = search needs
-
-add-k : tie.Need-add-k Inv-loop μ-loop
-add-k c = search needs
-
-loop-less : tie.Need-loop-less Inv-loop μ-loop
-loop-less c = search needs
-
 loop-again : tie.Need-loop-again Inv-loop μ-loop
 loop-again c = search (needs, last-again)
 
@@ -33,4 +24,4 @@ returns c = search (needs, last-done)
 pub without-last-spec : {M : Type 1} → statement M
 without-last-spec =
     tie.close
-    (tie.spec Inv-loop μ-loop loop-holds quotient-requires add-k loop-less loop-again returns)
+    (tie.spec Inv-loop μ-loop loop-holds (λ c κs. search needs) (λ c. search needs) (λ c. search needs) loop-again returns)

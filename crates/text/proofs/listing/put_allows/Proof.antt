@@ -13,24 +13,6 @@ Inv-loop out₀ at actions count masks to₀ k₀ out to k = Along (allowAt acti
 abbrev μ-loop : tie.MeasureT-loop
 μ-loop out₀ at actions count masks to₀ k₀ out to k = length masks - k
 
-loop-holds : tie.Need-loop-holds Inv-loop μ-loop
-loop-holds c = search begins
-
-put-allow-at-requires : tie.Need-put-allow-at-requires Inv-loop μ-loop
-put-allow-at-requires c κs = search needs
-
-add-k : tie.Need-add-k Inv-loop μ-loop
-add-k c = search needs
-
-loop-less : tie.Need-loop-less Inv-loop μ-loop
-loop-less c = search needs
-
-loop-again : tie.Need-loop-again Inv-loop μ-loop
-loop-again c = search goes-on
-
-same-length : tie.Need-same-length Inv-loop μ-loop
-same-length c = search needs
-
 returns : tie.Need-returns Inv-loop μ-loop
 unfolding allowLines
 returns c = search ends
@@ -38,13 +20,5 @@ returns c = search ends
 pub put-allows-spec : {M : Type 1} → statement M
 put-allows-spec =
     tie.close
-    (tie.spec
-    Inv-loop
-    μ-loop
-    loop-holds
-    put-allow-at-requires
-    add-k
-    loop-less
-    loop-again
-    same-length
-    returns)
+    (tie.spec Inv-loop μ-loop (λ c. search begins) (λ c κs. search needs) (λ c. search needs) (λ c. search needs)
+    (λ c. search goes-on) (λ c. search needs) returns)

@@ -4,19 +4,10 @@ use borrow.Author.Needs.{needs}
 use Rattle.text.proofs.listing.put_losing.Statement.{statement}
 use Rattle.text.proofs.listing.put_losing.Tie as tie
 
-slice-aggregate-put-field-line : tie.Need-slice-aggregate-put-field-line
-slice-aggregate-put-field-line c = search needs
-
-put-field-line-requires : tie.Need-put-field-line-requires
-put-field-line-requires c κs = search needs
-
-same-length : tie.Need-same-length
-same-length c = search needs
-
 returns : tie.Need-returns
 unfolding losingLine
 returns c = search needs
 
 pub put-losing-spec : {M : Type 1} → statement M
 put-losing-spec =
-    tie.close (tie.spec slice-aggregate-put-field-line put-field-line-requires same-length returns)
+    tie.close (tie.spec (λ c. search needs) (λ c κs. search needs) (λ c. search needs) returns)

@@ -13,24 +13,6 @@ Inv-loop out₀ at actions count ranks to₀ k₀ out to k = Along (rankAt actio
 abbrev μ-loop : tie.MeasureT-loop
 μ-loop out₀ at actions count ranks to₀ k₀ out to k = length ranks - k
 
-loop-holds : tie.Need-loop-holds Inv-loop μ-loop
-loop-holds c = search begins
-
-put-rank-at-requires : tie.Need-put-rank-at-requires Inv-loop μ-loop
-put-rank-at-requires c κs = search needs
-
-add-k : tie.Need-add-k Inv-loop μ-loop
-add-k c = search needs
-
-loop-less : tie.Need-loop-less Inv-loop μ-loop
-loop-less c = search needs
-
-loop-again : tie.Need-loop-again Inv-loop μ-loop
-loop-again c = search goes-on
-
-same-length : tie.Need-same-length Inv-loop μ-loop
-same-length c = search needs
-
 returns : tie.Need-returns Inv-loop μ-loop
 unfolding rankLines
 returns c = search ends
@@ -38,13 +20,5 @@ returns c = search ends
 pub put-ranks-spec : {M : Type 1} → statement M
 put-ranks-spec =
     tie.close
-    (tie.spec
-    Inv-loop
-    μ-loop
-    loop-holds
-    put-rank-at-requires
-    add-k
-    loop-less
-    loop-again
-    same-length
-    returns)
+    (tie.spec Inv-loop μ-loop (λ c. search begins) (λ c κs. search needs) (λ c. search needs) (λ c. search needs)
+    (λ c. search goes-on) (λ c. search needs) returns)

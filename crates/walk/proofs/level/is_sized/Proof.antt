@@ -23,9 +23,6 @@ returns-5 c = unsized _ _ (λ s. omega arith)
 mul-result : tie.Need-mul-result
 mul-result c = product-fits (omega arith) (omega arith)
 
-returns-6 : tie.Need-returns-6
-returns-6 c = search existing
-
 pub is-sized-spec : {M : Type 1} → statement M
 is-sized-spec =
-    tie.close (tie.spec returns returns-2 returns-3 returns-4 returns-5 mul-result returns-6)
+    tie.close (tie.spec returns returns-2 returns-3 returns-4 returns-5 mul-result (λ c. search existing))

@@ -22,75 +22,10 @@ Inv-actions p grid u firsts level marks n k q w c₀ c = (c ≤ level .actions) 
 abbrev μ-actions : tie.MeasureT-actions
 μ-actions p grid u firsts level marks n k q w c₀ c = level .actions - c
 
-div-q : tie.Need-div-q Inv-moves μ-moves Inv-actions μ-actions
-div-q c = search walks
-
-rem-w : tie.Need-rem-w Inv-moves μ-moves Inv-actions μ-actions
-rem-w c = search walks
-
-actions-holds : tie.Need-actions-holds Inv-moves μ-moves Inv-actions μ-actions
-actions-holds c = search walks
-
-choose-requires : tie.Need-choose-requires Inv-moves μ-moves Inv-actions μ-actions
-choose-requires c κs = search walks
-
-add-c : tie.Need-add-c Inv-moves μ-moves Inv-actions μ-actions
-add-c c = search walks
-
-actions-less : tie.Need-actions-less Inv-moves μ-moves Inv-actions μ-actions
-actions-less c = search walks
-
-actions-again : tie.Need-actions-again Inv-moves μ-moves Inv-actions μ-actions
-actions-again c = search walks
-
-moves-holds : tie.Need-moves-holds Inv-moves μ-moves Inv-actions μ-actions
-moves-holds c = search walks
-
-spoils-requires : tie.Need-spoils-requires Inv-moves μ-moves Inv-actions μ-actions
-spoils-requires c κs = search walks
-
-actions-less-2 : tie.Need-actions-less-2 Inv-moves μ-moves Inv-actions μ-actions
-actions-less-2 c = search walks
-
-actions-again-2 : tie.Need-actions-again-2 Inv-moves μ-moves Inv-actions μ-actions
-actions-again-2 c = search walks
-
-add-line : tie.Need-add-line Inv-moves μ-moves Inv-actions μ-actions
-add-line c = search walks
-
-moves-less : tie.Need-moves-less Inv-moves μ-moves Inv-actions μ-actions
-moves-less c = search walks
-
-moves-again : tie.Need-moves-again Inv-moves μ-moves Inv-actions μ-actions
-moves-again c = search walks
-
-returns : tie.Need-returns Inv-moves μ-moves Inv-actions μ-actions
-returns c = search walks
-
-returns-2 : tie.Need-returns-2 Inv-moves μ-moves Inv-actions μ-actions
-returns-2 c = search walks
-
 pub doomed-at-spec : {M : Type 1} → statement M
 doomed-at-spec =
     tie.close
-    (tie.spec
-    Inv-moves
-    μ-moves
-    Inv-actions
-    μ-actions
-    div-q
-    rem-w
-    actions-holds
-    choose-requires
-    add-c
-    actions-less
-    actions-again
-    moves-holds
-    spoils-requires
-    actions-less-2
-    actions-again-2
-    add-line
-    moves-less
-    moves-again
-    returns
-    returns-2)
+    (tie.spec Inv-moves μ-moves Inv-actions μ-actions (λ c. search walks) (λ c. search walks) (λ c. search walks)
+    (λ c κs. search walks) (λ c. search walks) (λ c. search walks) (λ c. search walks) (λ c. search walks)
+    (λ c κs. search walks) (λ c. search walks) (λ c. search walks) (λ c. search walks) (λ c. search walks)
+    (λ c. search walks) (λ c. search walks) (λ c. search walks))

@@ -14,53 +14,9 @@ Inv-loop p grid u firsts level marks n k c x line₀ line = spoiltBy (arenaOf p 
 abbrev μ-loop : tie.MeasureT-loop
 μ-loop p grid u firsts level marks n k c x line₀ line = x .end - line
 
-div-choose : tie.Need-div-choose Inv-loop μ-loop
-div-choose c = search walking
-
-rem-choose : tie.Need-rem-choose Inv-loop μ-loop
-rem-choose c = search walking
-
-choose-requires : tie.Need-choose-requires Inv-loop μ-loop
-choose-requires c κs = search walking
-
-returns : tie.Need-returns Inv-loop μ-loop
-returns c = search walking
-
-loop-holds : tie.Need-loop-holds Inv-loop μ-loop
-loop-holds c = search walking
-
-spoils-requires : tie.Need-spoils-requires Inv-loop μ-loop
-spoils-requires c κs = search walking
-
-returns-2 : tie.Need-returns-2 Inv-loop μ-loop
-returns-2 c = search walking
-
-add-line : tie.Need-add-line Inv-loop μ-loop
-add-line c = search walking
-
-loop-less : tie.Need-loop-less Inv-loop μ-loop
-loop-less c = search walking
-
-loop-again : tie.Need-loop-again Inv-loop μ-loop
-loop-again c = search walking
-
-returns-3 : tie.Need-returns-3 Inv-loop μ-loop
-returns-3 c = search walking
-
 pub spoilt-at-spec : {M : Type 1} → statement M
 spoilt-at-spec =
     tie.close
-    (tie.spec
-    Inv-loop
-    μ-loop
-    div-choose
-    rem-choose
-    choose-requires
-    returns
-    loop-holds
-    spoils-requires
-    returns-2
-    add-line
-    loop-less
-    loop-again
-    returns-3)
+    (tie.spec Inv-loop μ-loop (λ c. search walking) (λ c. search walking) (λ c κs. search walking)
+    (λ c. search walking) (λ c. search walking) (λ c κs. search walking) (λ c. search walking) (λ c. search walking)
+    (λ c. search walking) (λ c. search walking) (λ c. search walking))
