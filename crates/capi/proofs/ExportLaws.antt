@@ -16,7 +16,7 @@ use Rattle.sheet.specs.declared.reading.Layout.{Layout}
 use Rattle.sheet.specs.declared.reading.Reading.{Reading}
 use Rattle.sheet.specs.declared.reading.Reading.the-variants as readings
 use Rattle.sheet.proofs.Accepted.{read-accepted, read-refused}
-use Rattle.solver.specs.Solving.{Solved, meaning}
+use Rattle.solver.specs.Solving.{Solved, solutionMeans}
 use Rattle.solver.specs.declared.solve.Solution.{Solution}
 use Rattle.solver.specs.declared.solve.Solution.the-variants as solutions
 use Rattle.maker.specs.Making as making
@@ -32,7 +32,7 @@ use Rattle.capi.specs.Exported.{numberFor, headerAfter, placesAfter, los
 
 -- reading r of the sheet s
 
-module _ (s : List ℕ) (r : Reading) (told : reading.meaning r ≡ readAnswer s) where
+module _ (s : List ℕ) (r : Reading) (told : reading.readingMeans r ≡ readAnswer s) where
   module _ (why : Refusal) (n : ℕ) (e : r ≡ readings.Refused why) (f : n ≡ refusalNumber r) where
     pub refused-number : n ≡ numberFor (readAnswer s)
     unfolding numberFor
@@ -68,9 +68,9 @@ pub ruleset accepts = (needs, accepted-number, accepted-header, accepted-places)
 -- solving r, whose answer is a
 
 module _ (a : Answer Solved) (r : Solution) where
-  module _ (n : ℕ) (e : r ≡ solutions.Refused n) (told : meaning r ≡ a) where
+  module _ (n : ℕ) (e : r ≡ solutions.Refused n) (told : solutionMeans r ≡ a) where
     unsolved-is : a ≡ refused n
-    unsolved-is = sym told ∙ ap meaning e
+    unsolved-is = sym told ∙ ap solutionMeans e
 
     pub unsolved-number : n ≡ numberFor a
     unfolding numberFor
@@ -80,9 +80,9 @@ module _ (a : Answer Solved) (r : Solution) where
     unfolding losingAfter
     unsolved-losing b = rw unsolved-is
 
-  module _ (l : Layout) (e : r ≡ solutions.Winning l) (told : meaning r ≡ a) where
+  module _ (l : Layout) (e : r ≡ solutions.Winning l) (told : solutionMeans r ≡ a) where
     won-is : a ≡ accepted (record { verdict = wins; layout = l })
-    won-is = sym told ∙ ap meaning e
+    won-is = sym told ∙ ap solutionMeans e
 
     pub won-number : 0 ≡ numberFor a
     unfolding numberFor
@@ -92,9 +92,9 @@ module _ (a : Answer Solved) (r : Solution) where
     unfolding losingAfter losingNumber
     won-losing b = rw won-is
 
-  module _ (m : ℕ) (l : Layout) (e : r ≡ solutions.Losing m l) (told : meaning r ≡ a) where
+  module _ (m : ℕ) (l : Layout) (e : r ≡ solutions.Losing m l) (told : solutionMeans r ≡ a) where
     lost-is : a ≡ accepted (record { verdict = losing m; layout = l })
-    lost-is = sym told ∙ ap meaning e
+    lost-is = sym told ∙ ap solutionMeans e
 
     pub lost-number : 0 ≡ numberFor a
     unfolding numberFor
@@ -113,9 +113,9 @@ pub ruleset lost = (needs, lost-number, lost-losing)
 -- making r, whose answer is a
 
 module _ (a : Answer Measured) (r : Making) where
-  module _ (n : ℕ) (e : r ≡ makings.Refused n) (told : making.meaning r ≡ a) where
+  module _ (n : ℕ) (e : r ≡ makings.Refused n) (told : making.makingMeans r ≡ a) where
     unmade-is : a ≡ refused n
-    unmade-is = sym told ∙ ap making.meaning e
+    unmade-is = sym told ∙ ap making.makingMeans e
 
     pub unmade-number : n ≡ numberFor a
     unfolding numberFor
@@ -129,9 +129,9 @@ module _ (a : Answer Measured) (r : Making) where
     unfolding madeLosing
     unmade-losing b = rw unmade-is
 
-  module _ (n : ℕ) (e : r ≡ makings.Winning n) (told : making.meaning r ≡ a) where
+  module _ (n : ℕ) (e : r ≡ makings.Winning n) (told : making.makingMeans r ≡ a) where
     made-is : a ≡ accepted (record { verdict = wins; size = n })
-    made-is = sym told ∙ ap making.meaning e
+    made-is = sym told ∙ ap making.makingMeans e
 
     pub made-number : 0 ≡ numberFor a
     unfolding numberFor
@@ -145,9 +145,9 @@ module _ (a : Answer Measured) (r : Making) where
     unfolding madeLosing losingNumber
     made-losing b = rw made-is
 
-  module _ (m n : ℕ) (e : r ≡ makings.Losing m n) (told : making.meaning r ≡ a) where
+  module _ (m n : ℕ) (e : r ≡ makings.Losing m n) (told : making.makingMeans r ≡ a) where
     ranked-is : a ≡ accepted (record { verdict = losing m; size = n })
-    ranked-is = sym told ∙ ap making.meaning e
+    ranked-is = sym told ∙ ap making.makingMeans e
 
     pub ranked-number : 0 ≡ numberFor a
     unfolding numberFor
@@ -169,10 +169,10 @@ pub ruleset ranked = (needs, ranked-number, ranked-size, ranked-losing)
 
 -- reading r of the table sheet s
 
-module _ (s : List ℕ) (r : TableReading) (told : tables.meaning s r ≡ tableAnswer s) where
+module _ (s : List ℕ) (r : TableReading) (told : tables.tableReadingMeans s r ≡ tableAnswer s) where
   module _ (why : Refusal) (n : ℕ) (e : r ≡ table-readings.Refused why) (f : n ≡ numberOf why) where
     unreadable : tableAnswer s ≡ refused n
-    unreadable = sym told ∙ ap (tables.meaning s) e ∙ ap refused (sym f)
+    unreadable = sym told ∙ ap (tables.tableReadingMeans s) e ∙ ap refused (sym f)
 
     pub unreadable-number : n ≡ numberFor (tableAnswer s)
     unfolding numberFor
@@ -184,7 +184,7 @@ module _ (s : List ℕ) (r : TableReading) (told : tables.meaning s r ≡ tableA
 
   module _ (l : TableLayout) (e : r ≡ table-readings.Accepted l) where
     readable : tableAnswer s ≡ accepted (tables.tableAt s l)
-    readable = sym told ∙ ap (tables.meaning s) e
+    readable = sym told ∙ ap (tables.tableReadingMeans s) e
 
     pub readable-number : 0 ≡ numberFor (tableAnswer s)
     unfolding numberFor

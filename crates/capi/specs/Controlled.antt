@@ -2,29 +2,29 @@
 -- it was refused. Assumes nothing.
 use Prim.Native.Nat.{ℕ}
 use mathlib.Core.List.{List, [], _∷_}
-use Rattle.controller.specs.Accuracy.{Call, Outcome, accepts, gives, refuses, Reply, reply}
+use Rattle.controller.specs.Accuracy.{Call, Response, accepts, acts, refuses, Reply, reply}
 use Rattle.state.specs.declared.state.State.{State}
 use Rattle.state.specs.StateBytes.{decodeState, encodeState}
 
 -- the number of a refusal, 0 for every other outcome
-unfoldable pub outcomeNumber : Outcome → ℕ
-outcomeNumber accepts = 0
-outcomeNumber (gives a) = 0
-outcomeNumber (refuses n) = n
+unfoldable pub responseNumber : Response → ℕ
+responseNumber accepts = 0
+responseNumber (acts a) = 0
+responseNumber (refuses n) = n
 
 -- the bytes where the next state is s, and were b before the call
-unfoldable pub bytesFor : Outcome → State → List ℕ → List ℕ
+unfoldable pub bytesFor : Response → State → List ℕ → List ℕ
 bytesFor accepts s b = encodeState s
-bytesFor (gives a) s b = encodeState s
+bytesFor (acts a) s b = encodeState s
 bytesFor (refuses n) s b = b
 
 unfoldable pub bytesAfter : Reply → List ℕ → List ℕ
-bytesAfter r b = bytesFor (r .outcome) (r .state) b
+bytesAfter r b = bytesFor (r .response) (r .state) b
 
 -- the given action; what stood there before where none was given
-unfoldable pub actionAfter : Outcome → ℕ → ℕ
+unfoldable pub actionAfter : Response → ℕ → ℕ
 actionAfter accepts before = before
-actionAfter (gives a) before = a
+actionAfter (acts a) before = a
 actionAfter (refuses n) before = before
 
 -- the reply to a call on a state's bytes, over the sheet t

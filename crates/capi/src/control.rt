@@ -8,14 +8,14 @@ use sheet::refusal::number;
 use state::bytes::decode;
 use state::bytes::encode;
 ghost use mathlib.Core.Path.{_≡_};
-ghost use Rattle.controller.specs.Accuracy.{hear, ask};
-ghost use Rattle.controller.specs.Meaning.{meaning, openReply};
-ghost use Rattle.capi.specs.Controlled.{outcomeNumber, bytesAfter, actionAfter, byteReply};
+ghost use Rattle.controller.specs.Accuracy.{observe, act};
+ghost use Rattle.controller.specs.Meaning.{stepMeans, openReply};
+ghost use Rattle.capi.specs.Controlled.{responseNumber, bytesAfter, actionAfter, byteReply};
 
 // The answer's number; the bytes of the next state, where nothing was refused.
 fn conclude(step: Step, state: &mut [u8; 21]) -> u8
-    ensures number { λ r. ⌜ r ≡ outcomeNumber (meaning step .outcome) ⌝ }
-    ensures state { λ r. ⌜ now (state .exit) ≡ bytesAfter (meaning step) (now (state .entry)) ⌝ }
+    ensures number { λ r. ⌜ r ≡ responseNumber (stepMeans step .response) ⌝ }
+    ensures state { λ r. ⌜ now (state .exit) ≡ bytesAfter (stepMeans step) (now (state .entry)) ⌝ }
 {
     let decision = step.decision;
     match decision {
@@ -24,7 +24,7 @@ fn conclude(step: Step, state: &mut [u8; 21]) -> u8
             *state = encode(step.state);
             0
         }
-        Decision::Given(_) => {
+        Decision::Acted(_) => {
             *state = encode(step.state);
             0
         }
@@ -33,7 +33,7 @@ fn conclude(step: Step, state: &mut [u8; 21]) -> u8
 
 #[no_mangle]
 pub extern "C" fn lq_open(sheet: &[u8], state: &mut [u8; 21]) -> u8
-    ensures number { λ r. ⌜ r ≡ outcomeNumber (openReply (now (sheet .entry)) .outcome) ⌝ }
+    ensures number { λ r. ⌜ r ≡ responseNumber (openReply (now (sheet .entry)) .response) ⌝ }
     ensures state { λ r. ⌜ now (state .exit) ≡ bytesAfter (openReply (now (sheet .entry))) (now (state .entry)) ⌝ }
 {
     let step = opening(sheet);
@@ -42,8 +42,8 @@ pub extern "C" fn lq_open(sheet: &[u8], state: &mut [u8; 21]) -> u8
 
 #[no_mangle]
 pub extern "C" fn lq_observe(sheet: &[u8], state: &mut [u8; 21], index: usize, position: u8) -> u8
-    ensures number { λ r. ⌜ r ≡ outcomeNumber (byteReply (now (sheet .entry)) (now (state .entry)) (hear index position) .outcome) ⌝ }
-    ensures state { λ r. ⌜ now (state .exit) ≡ bytesAfter (byteReply (now (sheet .entry)) (now (state .entry)) (hear index position)) (now (state .entry)) ⌝ }
+    ensures number { λ r. ⌜ r ≡ responseNumber (byteReply (now (sheet .entry)) (now (state .entry)) (observe index position) .response) ⌝ }
+    ensures state { λ r. ⌜ now (state .exit) ≡ bytesAfter (byteReply (now (sheet .entry)) (now (state .entry)) (observe index position)) (now (state .entry)) ⌝ }
 {
     let step = observe(sheet, decode(state), index, position);
     conclude(step, state)
@@ -51,14 +51,14 @@ pub extern "C" fn lq_observe(sheet: &[u8], state: &mut [u8; 21], index: usize, p
 
 #[no_mangle]
 pub extern "C" fn lq_act(sheet: &[u8], state: &mut [u8; 21], action: &mut u8) -> u8
-    ensures number { λ r. ⌜ r ≡ outcomeNumber (byteReply (now (sheet .entry)) (now (state .entry)) ask .outcome) ⌝ }
-    ensures state { λ r. ⌜ now (state .exit) ≡ bytesAfter (byteReply (now (sheet .entry)) (now (state .entry)) ask) (now (state .entry)) ⌝ }
-    ensures action { λ r. ⌜ now (action .exit) ≡ actionAfter (byteReply (now (sheet .entry)) (now (state .entry)) ask .outcome) (now (action .entry)) ⌝ }
+    ensures number { λ r. ⌜ r ≡ responseNumber (byteReply (now (sheet .entry)) (now (state .entry)) act .response) ⌝ }
+    ensures state { λ r. ⌜ now (state .exit) ≡ bytesAfter (byteReply (now (sheet .entry)) (now (state .entry)) act) (now (state .entry)) ⌝ }
+    ensures action { λ r. ⌜ now (action .exit) ≡ actionAfter (byteReply (now (sheet .entry)) (now (state .entry)) act .response) (now (action .entry)) ⌝ }
 {
     let step = act(sheet, decode(state));
     let decision = step.decision;
     match decision {
-        Decision::Given(a) => {
+        Decision::Acted(a) => {
             *action = a;
             conclude(step, state)
         }

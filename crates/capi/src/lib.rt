@@ -8,9 +8,8 @@ use sheet::reading::refusal_number;
 use solver::solve::Solution;
 use solver::solve::solve;
 ghost use mathlib.Core.Path.{_≡_};
-ghost use lib.ListN.{length};
 ghost use Rattle.sheet.specs.Reading.{readAnswer};
-ghost use Rattle.solver.specs.Solving.{solveAnswer, masksAfter, ranksLeft};
+ghost use Rattle.solver.specs.Solving.{solving, masksSolved, ranksSolved};
 ghost use Rattle.capi.specs.Exported.{numberFor, headerAfter, placesAfter, losingAfter};
 
 #[no_mangle]
@@ -39,10 +38,10 @@ pub extern "C" fn lq_read(sheet: &[u8], header: &mut [u8; 3], places: &mut [usiz
 
 #[no_mangle]
 pub extern "C" fn lq_solve(sheet: &[u8], masks: &mut [u8], ranks: &mut [u16], losing: &mut u8) -> u8
-    ensures number { λ r. ⌜ r ≡ numberFor (solveAnswer (now (sheet .entry)) (length (now (masks .entry))) (length (now (ranks .entry)))) ⌝ }
-    ensures masks { λ r. ⌜ now (masks .exit) ≡ masksAfter (now (sheet .entry)) (solveAnswer (now (sheet .entry)) (length (now (masks .entry))) (length (now (ranks .entry)))) (now (masks .entry)) ⌝ }
-    ensures ranks { λ r. ⌜ now (ranks .exit) ≡ ranksLeft (now (sheet .entry)) (solveAnswer (now (sheet .entry)) (length (now (masks .entry))) (length (now (ranks .entry)))) (now (ranks .entry)) ⌝ }
-    ensures losing { λ r. ⌜ now (losing .exit) ≡ losingAfter (solveAnswer (now (sheet .entry)) (length (now (masks .entry))) (length (now (ranks .entry)))) (now (losing .entry)) ⌝ }
+    ensures number { λ r. ⌜ r ≡ numberFor (solving (now (sheet .entry)) (now (masks .entry)) (now (ranks .entry))) ⌝ }
+    ensures masks { λ r. ⌜ now (masks .exit) ≡ masksSolved (now (sheet .entry)) (now (masks .entry)) (now (ranks .entry)) ⌝ }
+    ensures ranks { λ r. ⌜ now (ranks .exit) ≡ ranksSolved (now (sheet .entry)) (now (masks .entry)) (now (ranks .entry)) ⌝ }
+    ensures losing { λ r. ⌜ now (losing .exit) ≡ losingAfter (solving (now (sheet .entry)) (now (masks .entry)) (now (ranks .entry))) (now (losing .entry)) ⌝ }
 {
     let solution = solve(sheet, masks, ranks);
     match solution {

@@ -6,9 +6,8 @@ use sheet::refusal::number;
 use table::reading::TableReading;
 use table::reading::read;
 ghost use mathlib.Core.Path.{_≡_};
-ghost use lib.ListN.{length};
-ghost use Rattle.solver.specs.Solving.{solveAnswer, masksAfter, ranksLeft};
-ghost use Rattle.maker.specs.Making.{makeAnswer, ifMade, outputAfter, measured};
+ghost use Rattle.solver.specs.Solving.{};
+ghost use Rattle.maker.specs.Making.{measured, making, masksMade, ranksMade, outputMade};
 ghost use Rattle.table.specs.TableSheet.{tableAnswer};
 ghost use Rattle.capi.specs.Exported.{numberFor, sizeAfter, madeLosing, placeAfter};
 
@@ -21,12 +20,12 @@ pub extern "C" fn lq_make(
     size: &mut usize,
     losing: &mut u8,
 ) -> u8
-    ensures number { λ r. ⌜ r ≡ numberFor (measured (makeAnswer (now (sheet .entry)) (length (now (masks .entry))) (length (now (ranks .entry))) (length (now (out .entry))))) ⌝ }
-    ensures masks { λ r. ⌜ now (masks .exit) ≡ ifMade (makeAnswer (now (sheet .entry)) (length (now (masks .entry))) (length (now (ranks .entry))) (length (now (out .entry)))) (now (masks .entry)) (masksAfter (now (sheet .entry)) (solveAnswer (now (sheet .entry)) (length (now (masks .entry))) (length (now (ranks .entry)))) (now (masks .entry))) ⌝ }
-    ensures ranks { λ r. ⌜ now (ranks .exit) ≡ ifMade (makeAnswer (now (sheet .entry)) (length (now (masks .entry))) (length (now (ranks .entry))) (length (now (out .entry)))) (now (ranks .entry)) (ranksLeft (now (sheet .entry)) (solveAnswer (now (sheet .entry)) (length (now (masks .entry))) (length (now (ranks .entry)))) (now (ranks .entry))) ⌝ }
-    ensures output { λ r. ⌜ now (out .exit) ≡ outputAfter (makeAnswer (now (sheet .entry)) (length (now (masks .entry))) (length (now (ranks .entry))) (length (now (out .entry)))) (now (out .entry)) ⌝ }
-    ensures size { λ r. ⌜ now (size .exit) ≡ sizeAfter (measured (makeAnswer (now (sheet .entry)) (length (now (masks .entry))) (length (now (ranks .entry))) (length (now (out .entry))))) (now (size .entry)) ⌝ }
-    ensures losing { λ r. ⌜ now (losing .exit) ≡ madeLosing (measured (makeAnswer (now (sheet .entry)) (length (now (masks .entry))) (length (now (ranks .entry))) (length (now (out .entry))))) (now (losing .entry)) ⌝ }
+    ensures number { λ r. ⌜ r ≡ numberFor (measured (making (now (sheet .entry)) (now (masks .entry)) (now (ranks .entry)) (now (out .entry)))) ⌝ }
+    ensures masks { λ r. ⌜ now (masks .exit) ≡ masksMade (now (sheet .entry)) (now (masks .entry)) (now (ranks .entry)) (now (out .entry)) ⌝ }
+    ensures ranks { λ r. ⌜ now (ranks .exit) ≡ ranksMade (now (sheet .entry)) (now (masks .entry)) (now (ranks .entry)) (now (out .entry)) ⌝ }
+    ensures output { λ r. ⌜ now (out .exit) ≡ outputMade (now (sheet .entry)) (now (masks .entry)) (now (ranks .entry)) (now (out .entry)) ⌝ }
+    ensures size { λ r. ⌜ now (size .exit) ≡ sizeAfter (measured (making (now (sheet .entry)) (now (masks .entry)) (now (ranks .entry)) (now (out .entry)))) (now (size .entry)) ⌝ }
+    ensures losing { λ r. ⌜ now (losing .exit) ≡ madeLosing (measured (making (now (sheet .entry)) (now (masks .entry)) (now (ranks .entry)) (now (out .entry)))) (now (losing .entry)) ⌝ }
 {
     let making = make(sheet, masks, ranks, out);
     match making {

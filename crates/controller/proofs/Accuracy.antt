@@ -8,14 +8,14 @@ use Rattle.theory.specs.Answer.{accepted, onAccepted}
 use Rattle.theory.specs.Game.{Game, Legal}
 use Rattle.theory.specs.Play.{actionsOf, last, back, Rule, IsRule}
 use Rattle.theory.specs.Table.{flagged}
-use Rattle.theory.specs.Exact.{Run, going, playOf, commandOf}
+use Rattle.theory.specs.Exact.{Run, going, playOf, exactChoice}
 use Rattle.theory.proofs.Fold.{any-some}
 use Rattle.theory.proofs.Answer.{accepted-same, check-accepted, accepted-on}
 use Rattle.table.specs.TableSheet.{TableSheet, decode, shapeAnswer, someFlagged, tableAnswer}
 use Rattle.state.specs.State.{opened}
 use Rattle.controller.specs.Controller.{openAnswer, observeAnswer, actAnswer}
-use Rattle.controller.specs.Accuracy.{Call, hear, ask, reply, Progress, begun, turnOf, callStep, runCalls, True, Truthful, Answered, GoesSafely, Accurate}
-use Rattle.controller.proofs.Progress.{Sound, goes, Follows, begins, Right, hear-right, ask-right}
+use Rattle.controller.specs.Accuracy.{Call, observe, act, reply, Progress, begun, turnOf, callStep, runCalls, IsTrue, Truthful, Answered, GoesSafely, Accurate}
+use Rattle.controller.proofs.Progress.{Sound, goes, Follows, begins, Right, observe-right, act-right}
 
 -- a readable sheet has a flagged word
 some-word : (t : List ℕ) (x : TableSheet) → tableAnswer t ≡ accepted x → (v : ℕ) × (flagged (x .table) v ≡ true)
@@ -38,11 +38,11 @@ module _ (G : Game) (t : List ℕ) (rule : Rule) (legal : Legal G) (reads : tabl
   Follow = Follows G legal (decode t) sound word word-flagged rule is
 
   -- one call over the bytes
-  step-right : (s : Progress) → Follow s → (c : Call) → True G t rule s c
+  step-right : (s : Progress) → Follow s → (c : Call) → IsTrue G t rule s c
       → Right G legal (decode t) sound word word-flagged rule is s c (reply t (s .state) c)
   unfolding observeAnswer actAnswer onAccepted
-  step-right s f (hear k p) h = rw reads (hear-right G legal (decode t) sound word word-flagged rule is s f k p h)
-  step-right s f ask h = rw reads (ask-right G legal (decode t) sound word word-flagged rule is s f)
+  step-right s f (observe k p) h = rw reads (observe-right G legal (decode t) sound word word-flagged rule is s f k p h)
+  step-right s f act h = rw reads (act-right G legal (decode t) sound word word-flagged rule is s f)
 
   -- after any list of calls, from any progress that follows the exact play
   all-right : (s : Progress) → Follow s → (calls : List Call) → Truthful G t rule s calls
@@ -64,7 +64,7 @@ module _ (G : Game) (t : List ℕ) (rule : Rule) (legal : Legal G) (reads : tabl
       record {
         goes = g .is ∙ ap (λ (r : Run). going (playOf r)) (sym (g .is));
         safely = λ k. subst (λ (r : Run). G .safe (last G (back k (playOf r))) ≡ true) (sym (g .is)) (g .safe k);
-        commanded = (g .action, ap (λ (r : Run). commandOf G (decode t .delay) (decode t .table) (playOf r)) (g .is) ∙ g .commanded);
+        has-action = (g .action, ap (λ (r : Run). exactChoice G (decode t .delay) (decode t .table) (playOf r)) (g .is) ∙ g .has-action);
       }
 
   pub accurate : (calls : List Call) → Truthful G t rule begun calls → Accurate G t rule calls

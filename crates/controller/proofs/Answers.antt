@@ -5,11 +5,11 @@ use mathlib.Core.Bool.{true, false, not}
 use native.Mathlib.Omega.{arith}
 use borrow.Author.Tests.{le-leb, lt-leb, eq-eqb, ne-eqb}
 use Rattle.theory.specs.Answer.{refused, accepted}
-use Rattle.theory.specs.Exact.{missing, give}
+use Rattle.theory.specs.Exact.{none, some}
 use Rattle.theory.proofs.Answer.{check-passed, check-failed}
 use Rattle.table.specs.TableSheet.{TableSheet}
-use Rattle.state.specs.State.{agrees, million, slotAt, stateOk, observed, gaveState}
-use Rattle.controller.specs.Controller.{observeWith, obey, commandIn, reported, actWith}
+use Rattle.state.specs.State.{agrees, lastTurn, slotAt, stateOk, observed, actedState}
+use Rattle.controller.specs.Controller.{observeWith, obey, nextAction, reported, actWith}
 use Rattle.state.specs.declared.state.State.{State}
 
 module _ (x : TableSheet) (s : State) (k p : ℕ) where
@@ -58,27 +58,27 @@ module _ (x : TableSheet) (s : State) where
   act-20 bad = check-failed _ 20 _ bad
 
   module _ (good : stateOk x s ≡ true) where
-    pub act-15 : s .turn ≡ million → actWith x s ≡ refused 15
+    pub act-15 : s .turn ≡ lastTurn → actWith x s ≡ refused 15
     unfolding actWith
-    act-15 e = check-passed _ 20 _ good ∙ check-failed _ 15 _ (ap not (eq-eqb (s .turn) million e))
+    act-15 e = check-passed _ 20 _ good ∙ check-failed _ 15 _ (ap not (eq-eqb (s .turn) lastTurn e))
 
-    module _ (more : s .turn ≡ million → ⊥) where
+    module _ (more : s .turn ≡ lastTurn → ⊥) where
       pub act-13 : reported x s ≡ false → actWith x s ≡ refused 13
       unfolding actWith
       act-13 r =
-          check-passed _ 20 _ good ∙ check-passed _ 15 _ (ap not (ne-eqb (s .turn) million more)) ∙ check-failed _ 13 _ r
+          check-passed _ 20 _ good ∙ check-passed _ 15 _ (ap not (ne-eqb (s .turn) lastTurn more)) ∙ check-failed _ 13 _ r
 
       module _ (r : reported x s ≡ true) where
-        act-obeys : actWith x s ≡ obey x s (commandIn x s)
+        act-obeys : actWith x s ≡ obey x s (nextAction x s)
         unfolding actWith
         act-obeys =
-            check-passed _ 20 _ good ∙ check-passed _ 15 _ (ap not (ne-eqb (s .turn) million more)) ∙ check-passed _ 13 _ r
+            check-passed _ 20 _ good ∙ check-passed _ 15 _ (ap not (ne-eqb (s .turn) lastTurn more)) ∙ check-passed _ 13 _ r
 
-        pub act-14 : commandIn x s ≡ missing → actWith x s ≡ refused 14
+        pub act-14 : nextAction x s ≡ none → actWith x s ≡ refused 14
         unfolding obey
         act-14 e = act-obeys ∙ ap (obey x s) e
 
-        pub act-gives : (a : ℕ) → commandIn x s ≡ give a
-            → actWith x s ≡ accepted (record { action = a; state = gaveState (x .delay) s a })
+        pub act-answers : (a : ℕ) → nextAction x s ≡ some a
+            → actWith x s ≡ accepted (record { action = a; state = actedState (x .delay) s a })
         unfolding obey
-        act-gives a e = act-obeys ∙ ap (obey x s) e
+        act-answers a e = act-obeys ∙ ap (obey x s) e

@@ -19,75 +19,75 @@ use Rattle.theory.specs.Answer.{refused, accepted, onAccepted}
 use Rattle.theory.specs.Words.{digit}
 use Rattle.theory.specs.Strategy.{initialLength}
 use Rattle.theory.specs.Table.{flagged}
-use Rattle.theory.specs.Exact.{give, leastFlagged, lowestIn, commandAt}
+use Rattle.theory.specs.Exact.{some, leastFlagged, lowestIn, actionAt}
 use Rattle.theory.proofs.Fold.{both-left, both-right, either-left, all-at, below?, failed, passed}
 use Rattle.theory.proofs.Answer.{check-accepted, accepted-on}
-use Rattle.theory.proofs.Masks.{lowest-gives, lowest-missing, lowest-trailing}
+use Rattle.theory.proofs.Masks.{lowest-acts, lowest-missing, lowest-trailing}
 use Rattle.sheet.specs.Form.{partAt}
 use Rattle.sheet.specs.Refusals.{numberOf}
 use Rattle.sheet.specs.declared.refusal.Refusal.{Refusal}
 use Rattle.sheet.specs.declared.refusal.Refusal.the-variants as refusal
-use Rattle.table.specs.TableSheet.{TableSheet, says, tableAt, decode, numbersOk, belowAt, bytesBelow, bodiesOk, shapeAnswer, tableAnswer, meaning as reading}
+use Rattle.table.specs.TableSheet.{TableSheet, says, tableAt, decode, numbersOk, belowAt, bytesBelow, bodiesOk, shapeAnswer, tableAnswer, tableReadingMeans}
 use Rattle.table.specs.declared.reading.TableLayout.{TableLayout}
 use Rattle.table.specs.declared.reading.TableReading.{TableReading}
 use Rattle.table.specs.declared.reading.TableReading.the-variants as table
-use Rattle.state.specs.State.{agrees, million, unknown, seen, opened, slotAt, heldOk, windowOk, stateOk, pushed, shifted, gaveState}
-use Rattle.controller.specs.Controller.{observeWith, wordOf, commandIn, reported, actWith, openAnswer, observeAnswer, actAnswer}
-use Rattle.controller.specs.Accuracy.{hear, ask, afterHearing, afterGiving, reply}
-use Rattle.controller.specs.Meaning.{meaning, openReply, Usable}
+use Rattle.state.specs.State.{agrees, lastTurn, unknown, seen, opened, slotAt, heldOk, windowOk, stateOk, pushed, shifted, actedState}
+use Rattle.controller.specs.Controller.{observeWith, wordOf, nextAction, reported, actWith, openAnswer, observeAnswer, actAnswer}
+use Rattle.controller.specs.Accuracy.{observe, act, afterObserving, afterActing, reply}
+use Rattle.controller.specs.Meaning.{stepMeans, openReply, Usable}
 use Rattle.controller.specs.declared.calls.Decision.{Decision}
-use Rattle.controller.specs.declared.calls.Decision.the-variants.{Accepted, Given, Refused}
+use Rattle.controller.specs.declared.calls.Decision.the-variants.{Accepted, Acted, Refused}
 use Rattle.controller.specs.declared.calls.Step.{Step}
 use Rattle.state.specs.declared.state.Slot.{Slot}
 use Rattle.state.specs.declared.state.State.{State}
-use Rattle.controller.proofs.Answers.{observe-20, observe-16, observe-17, observe-18, observe-19, observe-accepts, act-20, act-15, act-13, act-14, act-gives}
+use Rattle.controller.proofs.Answers.{observe-20, observe-16, observe-17, observe-18, observe-19, observe-accepts, act-20, act-15, act-13, act-14, act-answers}
 
 -- a step
 
 abbrev pub step : Decision → State → Step
 step d s = record { decision = d; state = s }
 
-pub give-is : (delay : ℕ) (s : State) (a : ℕ) (p : List ℕ) (q : List Slot) → p ≡ pushed a (s .last) → q ≡ shifted delay (s .window)
-    → step (Given a) (record { turn = s .turn + 1; last = p; window = q }) ≡ step (Given a) (gaveState delay s a)
-give-is delay s a p q e f = rw (add-one (s .turn), e, f)
+pub take-turn-is : (delay : ℕ) (s : State) (a : ℕ) (p : List ℕ) (q : List Slot) → p ≡ pushed a (s .last) → q ≡ shifted delay (s .window)
+    → step (Acted a) (record { turn = s .turn + 1; last = p; window = q }) ≡ step (Acted a) (actedState delay s a)
+take-turn-is delay s a p q e f = rw (add-one (s .turn), e, f)
 
-pub ruleset give-laws = (needs, give-is)
+pub ruleset turn-laws = (needs, take-turn-is)
 
 -- what passing check 20 says of the turn
 
 module _ (l : TableLayout) (s : State) (b : Bool) (e : b ≡ stateOk (says l [] []) s) where
-  pub turn-few : not b ≡ false → s .turn ≤ million
+  pub turn-few : not b ≡ false → s .turn ≤ lastTurn
   unfolding stateOk
-  turn-few g = leb-true (s .turn) million (both-left _ _ (passed e g))
+  turn-few g = leb-true (s .turn) lastTurn (both-left _ _ (passed e g))
 
   pub turn-fits : not b ≡ false → Fits w64 (2 * s .turn)
   turn-fits g = record { fits = omega (arith, turn-few g) }
 
-  pub turn-left : not b ≡ false → (s .turn ≡ million → ⊥) → s .turn < million
+  pub turn-left : not b ≡ false → (s .turn ≡ lastTurn → ⊥) → s .turn < lastTurn
   turn-left g t = omega (arith, turn-few g)
 
 -- hearing; b is the result of check 20, v the delay as a number, w the slot of the index
 
 module _ (l : TableLayout) (s : State) (k p : ℕ) (r : Step) (b : Bool) (e : b ≡ stateOk (says l [] []) s) where
-  pub hears-20 : not b ≡ true → r ≡ step (Refused refusal.State) s → meaning r ≡ afterHearing s (observeWith (says l [] []) s k p)
-  hears-20 g f = ap meaning f ∙ ap (afterHearing s) (sym (observe-20 (says l [] []) s k p (failed e g)))
+  pub observed-20 : not b ≡ true → r ≡ step (Refused refusal.State) s → stepMeans r ≡ afterObserving s (observeWith (says l [] []) s k p)
+  observed-20 g f = ap stepMeans f ∙ ap (afterObserving s) (sym (observe-20 (says l [] []) s k p (failed e g)))
 
   module _ (g : not b ≡ false) where
-    pub hears-16 : l .highest < p → r ≡ step (Refused refusal.UnknownPosition) s
-        → meaning r ≡ afterHearing s (observeWith (says l [] []) s k p)
-    hears-16 h f = ap meaning f ∙ ap (afterHearing s) (sym (observe-16 (says l [] []) s k p (passed e g) h))
+    pub observed-16 : l .highest < p → r ≡ step (Refused refusal.UnknownPosition) s
+        → stepMeans r ≡ afterObserving s (observeWith (says l [] []) s k p)
+    observed-16 h f = ap stepMeans f ∙ ap (afterObserving s) (sym (observe-16 (says l [] []) s k p (passed e g) h))
 
     module _ (h : p ≤ l .highest) where
-      pub hears-18 : 2 * s .turn < k → r ≡ step (Refused refusal.TooNew) s
-          → meaning r ≡ afterHearing s (observeWith (says l [] []) s k p)
-      hears-18 u f = ap meaning f ∙ ap (afterHearing s) (sym (observe-18 (says l [] []) s k p (passed e g) h u))
+      pub observed-18 : 2 * s .turn < k → r ≡ step (Refused refusal.TooNew) s
+          → stepMeans r ≡ afterObserving s (observeWith (says l [] []) s k p)
+      observed-18 u f = ap stepMeans f ∙ ap (afterObserving s) (sym (observe-18 (says l [] []) s k p (passed e g) h u))
 
       module _ (u : k ≤ 2 * s .turn) (v : ℕ) (ev : v ≡ l .delay) where
-        pub hears-17 : v < 2 * s .turn - k → r ≡ step (Refused refusal.TooOld) s
-            → meaning r ≡ afterHearing s (observeWith (says l [] []) s k p)
-        hears-17 d f =
+        pub observed-17 : v < 2 * s .turn - k → r ≡ step (Refused refusal.TooOld) s
+            → stepMeans r ≡ afterObserving s (observeWith (says l [] []) s k p)
+        observed-17 d f =
             let o : k + l .delay < 2 * s .turn = omega arith in
-            ap meaning f ∙ ap (afterHearing s) (sym (observe-17 (says l [] []) s k p (passed e g) h o))
+            ap stepMeans f ∙ ap (afterObserving s) (sym (observe-17 (says l [] []) s k p (passed e g) h o))
 
         module _ (d : 2 * s .turn - k ≤ v) (w : Slot) (ew : w ≡ getD (s .window) (2 * s .turn - k) unknown) (a : Bool)
             (ea : a ≡ agrees w p) where
@@ -95,22 +95,22 @@ module _ (l : TableLayout) (s : State) (k p : ℕ) (r : Step) (b : Bool) (e : b 
           unfolding slotAt
           slot-same = ea ∙ ap (λ w. agrees w p) ew
 
-          pub hears-19 : not a ≡ true → r ≡ step (Refused refusal.Contradiction) s
-              → meaning r ≡ afterHearing s (observeWith (says l [] []) s k p)
-          hears-19 t f =
+          pub observed-19 : not a ≡ true → r ≡ step (Refused refusal.Contradiction) s
+              → stepMeans r ≡ afterObserving s (observeWith (says l [] []) s k p)
+          observed-19 t f =
               let o : 2 * s .turn ≤ k + l .delay = omega arith in
-              ap meaning f
-              ∙ ap (afterHearing s) (sym (observe-19 (says l [] []) s k p (passed e g) h o u (failed slot-same t)))
+              ap stepMeans f
+              ∙ ap (afterObserving s) (sym (observe-19 (says l [] []) s k p (passed e g) h o u (failed slot-same t)))
 
-          pub hears-accepts : not a ≡ false
+          pub observed-accepts : not a ≡ false
               → r ≡ step Accepted (record { turn = s .turn; last = s .last; window = set (s .window) (2 * s .turn - k) (seen p) })
-              → meaning r ≡ afterHearing s (observeWith (says l [] []) s k p)
-          hears-accepts t f =
+              → stepMeans r ≡ afterObserving s (observeWith (says l [] []) s k p)
+          observed-accepts t f =
               let o : 2 * s .turn ≤ k + l .delay = omega arith in
-              ap meaning f
-              ∙ ap (afterHearing s) (sym (observe-accepts (says l [] []) s k p (passed e g) h o u (passed slot-same t)))
+              ap stepMeans f
+              ∙ ap (afterObserving s) (sym (observe-accepts (says l [] []) s k p (passed e g) h o u (passed slot-same t)))
 
-pub ruleset hear-laws = (needs, turn-fits, hears-20, hears-16, hears-18, hears-17, hears-19, hears-accepts)
+pub ruleset observe-laws = (needs, turn-fits, observed-20, observed-16, observed-18, observed-17, observed-19, observed-accepts)
 
 -- giving; v is the delay as a number
 
@@ -132,10 +132,10 @@ module _ (x : TableSheet) (s : State) where
   unfolding reported either
   late-report h = rw (le-ltb (2 * s .turn) (x .delay) h)
 
-  early-command : 2 * s .turn < x .delay
-      → commandIn x s ≡ give (digit (x .actions) (initialLength (x .delay)) (leastFlagged (x .table)) (s .turn))
-  unfolding commandIn commandAt
-  early-command h = rw (lt-ltb (2 * s .turn) (x .delay) h)
+  early-choice : 2 * s .turn < x .delay
+      → nextAction x s ≡ some (digit (x .actions) (initialLength (x .delay)) (leastFlagged (x .table)) (s .turn))
+  unfolding nextAction actionAt
+  early-choice h = rw (lt-ltb (2 * s .turn) (x .delay) h)
 
   -- the mask of the needed report's node
   abbrev mask : ℕ
@@ -144,34 +144,34 @@ module _ (x : TableSheet) (s : State) where
       (slotAt s (x .delay) .position * x .actions ^ (x .delay / 2) + wordOf (x .actions) (take (x .delay / 2) (s .last)))
       0
 
-  late-command : x .delay ≤ 2 * s .turn → commandIn x s ≡ lowestIn (x .actions) mask
-  unfolding commandIn commandAt
-  late-command h = rw (le-ltb (2 * s .turn) (x .delay) h)
+  late-choice : x .delay ≤ 2 * s .turn → nextAction x s ≡ lowestIn (x .actions) mask
+  unfolding nextAction actionAt
+  late-choice h = rw (le-ltb (2 * s .turn) (x .delay) h)
 
 module _ (l : TableLayout) (f m : List ℕ) (s : State) (r : Step) (b : Bool) (e : b ≡ stateOk (says l [] []) s) where
-  pub acts-20 : not b ≡ true → r ≡ step (Refused refusal.State) s → meaning r ≡ afterGiving s (actWith (says l f m) s)
-  acts-20 g q = ap meaning q ∙ ap (afterGiving s) (sym (act-20 (says l f m) s (sym (state-any l f m s) ∙ failed e g)))
+  pub acts-20 : not b ≡ true → r ≡ step (Refused refusal.State) s → stepMeans r ≡ afterActing s (actWith (says l f m) s)
+  acts-20 g q = ap stepMeans q ∙ ap (afterActing s) (sym (act-20 (says l f m) s (sym (state-any l f m s) ∙ failed e g)))
 
   module _ (g : not b ≡ false) where
     good : stateOk (says l f m) s ≡ true
     good = sym (state-any l f m s) ∙ passed e g
 
-    pub acts-15 : s .turn ≡ million → r ≡ step (Refused refusal.LastTurn) s → meaning r ≡ afterGiving s (actWith (says l f m) s)
-    acts-15 t q = ap meaning q ∙ ap (afterGiving s) (sym (act-15 (says l f m) s good t))
+    pub acts-15 : s .turn ≡ lastTurn → r ≡ step (Refused refusal.LastTurn) s → stepMeans r ≡ afterActing s (actWith (says l f m) s)
+    acts-15 t q = ap stepMeans q ∙ ap (afterActing s) (sym (act-15 (says l f m) s good t))
 
-    module _ (t : s .turn ≡ million → ⊥) where
+    module _ (t : s .turn ≡ lastTurn → ⊥) where
       module _ (v : ℕ) (ev : v ≡ l .delay) where
         pub acts-early : (w a : ℕ) → 2 * s .turn < v → w ≡ leastFlagged (record { flags = f; masks = [] })
-            → a ≡ digit (l .actions) ((v + 1) / 2) w (s .turn) → r ≡ step (Given a) (gaveState (l .delay) s a)
-            → meaning r ≡ afterGiving s (actWith (says l f m) s)
+            → a ≡ digit (l .actions) ((v + 1) / 2) w (s .turn) → r ≡ step (Acted a) (actedState (l .delay) s a)
+            → stepMeans r ≡ afterActing s (actWith (says l f m) s)
         acts-early w a h ew ea q =
             let o : 2 * s .turn < l .delay = omega arith in
             let c : digit (l .actions) (initialLength (l .delay)) (leastFlagged (record { flags = f; masks = m })) (s .turn) ≡ a =
             ap₂ (λ d w. digit (l .actions) ((d + 1) / 2) w (s .turn)) (sym ev) (sym (ew ∙ least-any f m)) ∙ sym ea in
-            ap meaning q
-            ∙ ap (afterGiving s)
+            ap stepMeans q
+            ∙ ap (afterActing s)
             (sym
-            (act-gives (says l f m) s good t (early-report (says l f m) s o) a (early-command (says l f m) s o ∙ ap give c)))
+            (act-answers (says l f m) s good t (early-report (says l f m) s o) a (early-choice (says l f m) s o ∙ ap some c)))
 
         module _ (late : v ≤ 2 * s .turn) (w : Slot) (ew : w ≡ getD (s .window) v unknown) where
           o : l .delay ≤ 2 * s .turn
@@ -182,15 +182,15 @@ module _ (l : TableLayout) (f m : List ℕ) (s : State) (r : Step) (b : Bool) (e
           slot-is = ew ∙ ap (λ d. getD (s .window) d unknown) ev
 
           pub acts-13 : not (w .known) ≡ true → r ≡ step (Refused refusal.Unobserved) s
-              → meaning r ≡ afterGiving s (actWith (says l f m) s)
+              → stepMeans r ≡ afterActing s (actWith (says l f m) s)
           acts-13 k q =
               let z = late-report (says l f m) s o ∙ ap (λ (w : Slot). w .known) (sym slot-is) ∙ not-true (w .known) k in
-              ap meaning q ∙ ap (afterGiving s) (sym (act-13 (says l f m) s good t z))
+              ap stepMeans q ∙ ap (afterActing s) (sym (act-13 (says l f m) s good t z))
 
           module _ (k : not (w .known) ≡ false) (n : ℕ)
               (en : n ≡ getD m (w .position * l .actions ^ (l .delay / 2) + wordOf (l .actions) (take (l .delay / 2) (s .last))) 0) where
-            heard : reported (says l f m) s ≡ true
-            heard = late-report (says l f m) s o ∙ ap (λ (w : Slot). w .known) (sym slot-is) ∙ not-false (w .known) k
+            indices : reported (says l f m) s ≡ true
+            indices = late-report (says l f m) s o ∙ ap (λ (w : Slot). w .known) (sym slot-is) ∙ not-false (w .known) k
 
             mask-same : mask (says l f m) s ≡ n
             mask-same =
@@ -200,24 +200,24 @@ module _ (l : TableLayout) (f m : List ℕ) (s : State) (r : Step) (b : Bool) (e
                 (sym slot-is)
                 ∙ sym en
 
-            command-is : commandIn (says l f m) s ≡ lowestIn (l .actions) n
-            command-is = late-command (says l f m) s o ∙ ap (lowestIn (l .actions)) mask-same
+            action-is : nextAction (says l f m) s ≡ lowestIn (l .actions) n
+            action-is = late-choice (says l f m) s o ∙ ap (lowestIn (l .actions)) mask-same
 
-            pub acts-14 : n ≡ 0 → r ≡ step (Refused refusal.NoAction) s → meaning r ≡ afterGiving s (actWith (says l f m) s)
+            pub acts-14 : n ≡ 0 → r ≡ step (Refused refusal.NoAction) s → stepMeans r ≡ afterActing s (actWith (says l f m) s)
             acts-14 z q =
-                ap meaning q
-                ∙ ap (afterGiving s) (sym (act-14 (says l f m) s good t heard (command-is ∙ lowest-missing (l .actions) n z)))
+                ap stepMeans q
+                ∙ ap (afterActing s) (sym (act-14 (says l f m) s good t indices (action-is ∙ lowest-missing (l .actions) n z)))
 
             pub acts-late : (a : ℕ) → (n ≡ 0 → ⊥) → Usable (says l f m) → a ≡ trailingZeros 8 n
-                → r ≡ step (Given a) (gaveState (l .delay) s a) → meaning r ≡ afterGiving s (actWith (says l f m) s)
+                → r ≡ step (Acted a) (actedState (l .delay) s a) → stepMeans r ≡ afterActing s (actWith (says l f m) s)
             acts-late a z u ea q =
                 let small : n < 2 ^ l .actions = rw (← mask-same) (u .small-masks _) in
                 let c = lowest-trailing 8 (l .actions) n (u .few-actions) small z in
-                ap meaning q
-                ∙ ap (afterGiving s)
+                ap stepMeans q
+                ∙ ap (afterActing s)
                 (sym
-                (act-gives (says l f m) s good t heard a
-                (command-is ∙ lowest-gives (l .actions) n z ∙ ap give (sym c ∙ sym ea))))
+                (act-answers (says l f m) s good t indices a
+                (action-is ∙ lowest-acts (l .actions) n z ∙ ap some (sym c ∙ sym ea))))
 
 pub ruleset act-laws = (needs, turn-fits, turn-left, acts-20, acts-15, acts-early, acts-13, acts-14, acts-late)
 
@@ -255,16 +255,16 @@ usable t x e =
         rw (List·getD-eq-default (decode t .table .masks) 0 o) (pow-pos (decode t .actions)))
         (below? k (length (decode t .table .masks)))
 
-hear-any : (l : TableLayout) (f m : List ℕ) (s : State) (k p : ℕ) → observeWith (says l [] []) s k p ≡ observeWith (says l f m) s k p
+observe-any : (l : TableLayout) (f m : List ℕ) (s : State) (k p : ℕ) → observeWith (says l [] []) s k p ≡ observeWith (says l f m) s k p
 unfolding observeWith stateOk heldOk windowOk
-hear-any l f m s k p = refl
+observe-any l f m s k p = refl
 
 -- the public operations; y is the reading
 
-module _ (t : List ℕ) (y : TableReading) (ey : reading t y ≡ tableAnswer t) where
+module _ (t : List ℕ) (y : TableReading) (ey : tableReadingMeans t y ≡ tableAnswer t) where
   module _ (l : TableLayout) (el : y ≡ table.Accepted l) where
     answers : tableAnswer t ≡ accepted (tableAt t l)
-    answers = sym ey ∙ ap (reading t) el
+    answers = sym ey ∙ ap (tableReadingMeans t) el
 
     pub read-usable : (f m : List ℕ) → f ≡ partAt t (l .flags) → m ≡ partAt t (l .masks) → Usable (says l f m)
     read-usable f m ef em = rw (ef, em) (usable t (tableAt t l) answers)
@@ -272,34 +272,34 @@ module _ (t : List ℕ) (y : TableReading) (ey : reading t y ≡ tableAnswer t) 
     pub read-short : l .delay ≤ 6
     read-short = usable t (tableAt t l) answers .short-delay
 
-    pub opens : (r : Step) (s : State) → s ≡ opened → r ≡ step Accepted s → meaning r ≡ openReply t
+    pub opens : (r : Step) (s : State) → s ≡ opened → r ≡ step Accepted s → stepMeans r ≡ openReply t
     unfolding openReply openAnswer onAccepted
-    opens r s o q = ap meaning q ∙ ap (λ s. meaning (step Accepted s)) o ∙ rw answers
+    opens r s o q = ap stepMeans q ∙ ap (λ s. stepMeans (step Accepted s)) o ∙ rw answers
 
-    pub hears : (r : Step) (s : State) (k p : ℕ) → meaning r ≡ afterHearing s (observeWith (says l [] []) s k p)
-        → meaning r ≡ reply t s (hear k p)
+    pub observing : (r : Step) (s : State) (k p : ℕ) → stepMeans r ≡ afterObserving s (observeWith (says l [] []) s k p)
+        → stepMeans r ≡ reply t s (observe k p)
     unfolding observeAnswer onAccepted
-    hears r s k p q = q ∙ ap (afterHearing s) (hear-any l (partAt t (l .flags)) (partAt t (l .masks)) s k p) ∙ rw answers
+    observing r s k p q = q ∙ ap (afterObserving s) (observe-any l (partAt t (l .flags)) (partAt t (l .masks)) s k p) ∙ rw answers
 
     pub acts : (r : Step) (s : State) (f m : List ℕ) → f ≡ partAt t (l .flags) → m ≡ partAt t (l .masks)
-        → meaning r ≡ afterGiving s (actWith (says l f m) s) → meaning r ≡ reply t s ask
+        → stepMeans r ≡ afterActing s (actWith (says l f m) s) → stepMeans r ≡ reply t s act
     unfolding actAnswer onAccepted
-    acts r s f m ef em q = q ∙ ap₂ (λ f m. afterGiving s (actWith (says l f m) s)) ef em ∙ rw answers
+    acts r s f m ef em q = q ∙ ap₂ (λ f m. afterActing s (actWith (says l f m) s)) ef em ∙ rw answers
 
   module _ (n : Refusal) (en : y ≡ table.Refused n) where
     refuses : tableAnswer t ≡ refused (numberOf n)
-    refuses = sym ey ∙ ap (reading t) en
+    refuses = sym ey ∙ ap (tableReadingMeans t) en
 
-    pub opens-not : (r : Step) (s : State) → s ≡ opened → r ≡ step (Refused n) s → meaning r ≡ openReply t
+    pub opens-not : (r : Step) (s : State) → s ≡ opened → r ≡ step (Refused n) s → stepMeans r ≡ openReply t
     unfolding openReply openAnswer onAccepted
-    opens-not r s o q = ap meaning q ∙ ap (λ s. meaning (step (Refused n) s)) o ∙ rw refuses
+    opens-not r s o q = ap stepMeans q ∙ ap (λ s. stepMeans (step (Refused n) s)) o ∙ rw refuses
 
-    pub hears-not : (r : Step) (s : State) (k p : ℕ) → r ≡ step (Refused n) s → meaning r ≡ reply t s (hear k p)
+    pub observe-not : (r : Step) (s : State) (k p : ℕ) → r ≡ step (Refused n) s → stepMeans r ≡ reply t s (observe k p)
     unfolding observeAnswer onAccepted
-    hears-not r s k p q = ap meaning q ∙ rw refuses
+    observe-not r s k p q = ap stepMeans q ∙ rw refuses
 
-    pub acts-not : (r : Step) (s : State) → r ≡ step (Refused n) s → meaning r ≡ reply t s ask
+    pub acts-not : (r : Step) (s : State) → r ≡ step (Refused n) s → stepMeans r ≡ reply t s act
     unfolding actAnswer onAccepted
-    acts-not r s q = ap meaning q ∙ rw refuses
+    acts-not r s q = ap stepMeans q ∙ rw refuses
 
-pub ruleset call-laws = (needs, read-usable, read-short, opens, hears, acts, opens-not, hears-not, acts-not)
+pub ruleset call-laws = (needs, read-usable, read-short, opens, observing, acts, opens-not, observe-not, acts-not)

@@ -1,7 +1,7 @@
 -- The theorems over specs/.
 pub mod PlayLaws
 pub mod Answers
-pub mod CommandLaws
+pub mod ActionLaws
 pub mod CallLaws
 pub mod Progress
 pub mod Accuracy

@@ -9,7 +9,7 @@ use lib.Seq.{take-nil}
 use Rattle.theory.specs.Game.{Game, Legal}
 use Rattle.theory.specs.Play.{Play, origin, act, move, actionsOf, lastActions, IsPlay, begun, acted, moved, Rule}
 use Rattle.theory.specs.Table.{Table}
-use Rattle.theory.specs.Exact.{give, going, arrive, advance, turnBy, playBy, commandOf, exact, worked}
+use Rattle.theory.specs.Exact.{some, going, arrive, advance, turnBy, playBy, exactChoice, exact, worked}
 use Rattle.theory.proofs.Exact.{Goes}
 use Rattle.controller.specs.Controller.{wordOf}
 
@@ -37,8 +37,8 @@ module _ (G : Game) (d : ℕ) (T : Table) (rule : Rule) (n : ℕ) (g : Goes G d 
 
   pub exact-further : exact G d T rule (suc n) ≡ going further
   unfolding exact playBy turnBy advance arrive
-  exact-further = ap (turnBy G rule (commandOf G d T)) (g .is) ∙ rw (g .commanded, advance) (rw (g .permitted))
+  exact-further = ap (turnBy G rule (exactChoice G d T)) (g .is) ∙ rw (g .has-action, advance) (rw (g .permitted))
 
   pub worked-further : (given : List ℕ) → worked G rule given ≡ going (g .play) → worked G rule (g .action ∷ given) ≡ going further
   unfolding worked turnBy advance arrive
-  worked-further given e = ap (turnBy G rule (λ π. give (g .action))) e ∙ rw (g .permitted)
+  worked-further given e = ap (turnBy G rule (λ π. some (g .action))) e ∙ rw (g .permitted)

@@ -15,18 +15,18 @@ use Rattle.theory.specs.Answer.{Answer}
 use Rattle.theory.specs.Game.{Game, Legal}
 use Rattle.theory.specs.Play.{Play, origin, last, index, back, actionsOf, lastActions, Rule, IsRule}
 use Rattle.theory.specs.Table.{Table, flagged, Fits, Judged}
-use Rattle.theory.specs.Exact.{going, Run, playOf, playBy, commandAt, commandOf, exact, worked}
+use Rattle.theory.specs.Exact.{going, Run, playOf, playBy, actionAt, exactChoice, exact, worked}
 use Rattle.theory.proofs.Fold.{bool, below?, both-true, both-false, either-left, all-below, any-of-cons, length-tabulate, getD-tabulate}
 use Rattle.theory.proofs.Plays.{back-play, play-position}
 use Rattle.theory.proofs.Exact.{Goes, exact-goes}
 use Rattle.table.specs.TableSheet.{TableSheet}
-use Rattle.state.specs.State.{agrees, million, slots, unknown, seen, slotAt, heldAt, withinAt, heldOk, windowOk, stateOk, observed, pushed, shiftedAt, shifted, gaveState}
-use Rattle.controller.specs.Controller.{Gave, observeWith, wordOf, commandIn, reported, actWith}
-use Rattle.controller.specs.Accuracy.{Call, hear, ask, Reply, afterHearing, afterGiving, Progress, begun, turnOf, after, HasAt, isHeard, toGive, rightAnswer}
+use Rattle.state.specs.State.{agrees, lastTurn, slots, unknown, seen, slotAt, heldAt, withinAt, heldOk, windowOk, stateOk, observed, pushed, shiftedAt, shifted, actedState}
+use Rattle.controller.specs.Controller.{Acted, observeWith, wordOf, nextAction, reported, actWith}
+use Rattle.controller.specs.Accuracy.{Call, observe, act, Reply, afterObserving, afterActing, Progress, begun, turnOf, after, HasAt, isObserved, toAct, rightAnswer}
 use Rattle.state.specs.declared.state.Slot.{Slot}
 use Rattle.state.specs.declared.state.State.{State}
 use Rattle.controller.proofs.PlayLaws.{word-actions, action-small, further, exact-further, worked-further}
-use Rattle.controller.proofs.Answers.{observe-16, observe-17, observe-18, observe-accepts, act-15, act-13, act-gives}
+use Rattle.controller.proofs.Answers.{observe-16, observe-17, observe-18, observe-accepts, act-15, act-13, act-answers}
 
 -- what the sheet says is sound for the game: its numbers are the game's, and its table fits and is judged. All that demand 3
 -- needs of whoever made it
@@ -55,16 +55,16 @@ slot-known true p v e = rw e
 slot-known false p v e = rw e
 
 -- one index more is heard
-heard-more : (k : ℕ) (heard : List ℕ) (j : ℕ) → k ≡ j → anyOf (λ m. eqb m j) (k ∷ heard) ≡ true
-heard-more k heard j e = rw (any-of-cons (λ m. eqb m j) k heard) (either-left _ _ (eq-eqb k j e))
+observed-more : (k : ℕ) (indices : List ℕ) (j : ℕ) → k ≡ j → anyOf (λ m. eqb m j) (k ∷ indices) ≡ true
+observed-more k indices j e = rw (any-of-cons (λ m. eqb m j) k indices) (either-left _ _ (eq-eqb k j e))
 
-heard-other : (k : ℕ) (heard : List ℕ) (j : ℕ) → (k ≡ j → ⊥) → anyOf (λ m. eqb m j) (k ∷ heard) ≡ anyOf (λ m. eqb m j) heard
+observed-other : (k : ℕ) (indices : List ℕ) (j : ℕ) → (k ≡ j → ⊥) → anyOf (λ m. eqb m j) (k ∷ indices) ≡ anyOf (λ m. eqb m j) indices
 unfolding either
-heard-other k heard j e = any-of-cons (λ m. eqb m j) k heard ∙ rw (ne-eqb k j e)
+observed-other k indices j e = any-of-cons (λ m. eqb m j) k indices ∙ rw (ne-eqb k j e)
 
 -- while 2i < d the command needs no report and no word
-early-same : (A d : ℕ) (T : Table) (i p q v w : ℕ) → 2 * i < d → commandAt A d T i p v ≡ commandAt A d T i q w
-unfolding commandAt
+early-same : (A d : ℕ) (T : Table) (i p q v w : ℕ) → 2 * i < d → actionAt A d T i p v ≡ actionAt A d T i q w
+unfolding actionAt
 early-same A d T i p q v w h = rw (lt-ltb (2 * i) d h)
 
 module _ (G : Game) (legal : Legal G) (x : TableSheet) (sound : Sound G x) (w : ℕ) (w-flagged : flagged (x .table) w ≡ true) (rule : Rule) (is : IsRule G rule) where
@@ -77,15 +77,15 @@ module _ (G : Game) (legal : Legal G) (x : TableSheet) (sound : Sound G x) (w : 
   pub record Follows (s : Progress) : Type 0 where
     pub works : worked G rule (s .given) ≡ going (play (turnOf s))
     pub acts : s .given ≡ actionsOf (play (turnOf s))
-    pub bound : turnOf s ≤ million
+    pub bound : turnOf s ≤ lastTurn
     pub turn : s .state .turn ≡ turnOf s
     pub latest-size : length (s .state .last) ≡ 3
     pub latest : (k : ℕ) → k < 3 → getD (s .state .last) k 0 ≡ getD (s .given) k 0
     pub window-size : length (s .state .window) ≡ slots
     -- a slot of the window is known exactly if its index is heard, and has the position of the exact play
     pub slot : (k : ℕ) → k ≤ x .delay → k ≤ 2 * turnOf s
-        → slotAt (s .state) k ≡ cond (isHeard s (2 * turnOf s - k)) (seen (last G (back k (play (turnOf s))))) unknown
-    pub unheard : (j : ℕ) → 2 * turnOf s < j → isHeard s j ≡ false
+        → slotAt (s .state) k ≡ cond (isObserved s (2 * turnOf s - k)) (seen (last G (back k (play (turnOf s))))) unknown
+    pub unobserved : (j : ℕ) → 2 * turnOf s < j → isObserved s j ≡ false
 
   -- the exact play's turns
 
@@ -111,7 +111,7 @@ module _ (G : Game) (legal : Legal G) (x : TableSheet) (sound : Sound G x) (w : 
         latest = λ k h. getD-replicate 3 k 0 0 h;
         window-size = refl;
         slot = λ k h l. getD-replicate 7 k unknown unknown (omega arith);
-        unheard = λ j h. refl;
+        unobserved = λ j h. refl;
       }
 
   -- 20 is never answered
@@ -132,7 +132,7 @@ module _ (G : Game) (legal : Legal G) (x : TableSheet) (sound : Sound G x) (w : 
     window-small : (k : ℕ) → k ≤ x .delay → k ≤ 2 * turnOf s → withinAt (x .highest) (s .state .window) k ≡ true
     unfolding withinAt slotAt
     window-small k h l =
-        slot-within (isHeard s (2 * turnOf s - k)) (last G (back k (play (turnOf s)))) (x .highest) _ (f .slot k h l)
+        slot-within (isObserved s (2 * turnOf s - k)) (last G (back k (play (turnOf s)))) (x .highest) _ (f .slot k h l)
         (position-small (turnOf s) k)
 
     pub good-state : stateOk x (s .state) ≡ true
@@ -141,13 +141,13 @@ module _ (G : Game) (legal : Legal G) (x : TableSheet) (sound : Sound G x) (w : 
         let t = f .turn in
         let d = sound .short-delay in
         let b = f .bound in
-        both-true _ _ (le-leb (s .state .turn) million (omega arith))
+        both-true _ _ (le-leb (s .state .turn) lastTurn (omega arith))
         (both-true _ _ (all-below _ _ (λ k h. held-small k (omega arith) (omega arith)))
         (all-below _ _ (λ k h. window-small k (omega arith) (omega arith))))
 
   -- a call's answer is the right one, and the invariant holds after it
   abbrev pub Right : Progress → Call → Reply → Type 0
-  Right s c r = (r .outcome ≡ rightAnswer G x rule s c) × Follows (after s c r)
+  Right s c r = (r .response ≡ rightAnswer G x rule s c) × Follows (after s c r)
 
   module _ (s : Progress) (f : Follows s) (k p : ℕ) where
     -- a report of an index in the window is true of the exact play
@@ -158,16 +158,16 @@ module _ (G : Game) (legal : Legal G) (x : TableSheet) (sound : Sound G x) (w : 
         ∙ e
 
     module _ (l : 2 * turnOf s ≤ k + x .delay) (u : k ≤ 2 * turnOf s) (e : last G (back (2 * turnOf s - k) (play (turnOf s))) ≡ p) where
-      heard-agrees : agrees (slotAt (s .state) (2 * s .state .turn - k)) p ≡ true
-      heard-agrees =
+      observed-agrees : agrees (slotAt (s .state) (2 * s .state .turn - k)) p ≡ true
+      observed-agrees =
           ap (λ n. agrees (slotAt (s .state) (2 * n - k)) p) (f .turn)
-          ∙ slot-agrees (isHeard s (2 * turnOf s - (2 * turnOf s - k))) p _ _ (f .slot (2 * turnOf s - k) (omega arith) (omega arith)) e
+          ∙ slot-agrees (isObserved s (2 * turnOf s - (2 * turnOf s - k))) p _ _ (f .slot (2 * turnOf s - k) (omega arith) (omega arith)) e
 
-      heard-slot : (j : ℕ) → j ≤ x .delay → j ≤ 2 * turnOf s
+      observed-slot : (j : ℕ) → j ≤ x .delay → j ≤ 2 * turnOf s
           → getD (set (s .state .window) (2 * turnOf s - k) (seen p)) j unknown
-          ≡ cond (anyOf (λ m. eqb m (2 * turnOf s - j)) (k ∷ s .heard)) (seen (last G (back j (play (turnOf s))))) unknown
+          ≡ cond (anyOf (λ m. eqb m (2 * turnOf s - j)) (k ∷ s .indices)) (seen (last G (back j (play (turnOf s))))) unknown
       unfolding slotAt
-      heard-slot j h g =
+      observed-slot j h g =
           ⊎-elim
           (λ (t : eqb j (2 * turnOf s - k) ≡ true).
           let q : j ≡ 2 * turnOf s - k = eqb-true j (2 * turnOf s - k) t in
@@ -177,18 +177,18 @@ module _ (G : Game) (legal : Legal G) (x : TableSheet) (sound : Sound G x) (w : 
           ∙ getD-set-same (s .state .window) (2 * turnOf s - k) (seen p) unknown (omega arith)
           ∙ ap seen (sym e ∙ ap (λ i. last G (back i (play (turnOf s)))) (sym q))
           ∙ ap (λ b. cond b (seen (last G (back j (play (turnOf s))))) unknown)
-          (sym (heard-more k (s .heard) (2 * turnOf s - j) (omega arith))))
+          (sym (observed-more k (s .indices) (2 * turnOf s - j) (omega arith))))
           (λ (t : eqb j (2 * turnOf s - k) ≡ false).
           let q = eqb-false j (2 * turnOf s - k) t in
           getD-set-other (s .state .window) (2 * turnOf s - k) j (seen p) unknown q
           ∙ f .slot j h g
           ∙ ap (λ b. cond b (seen (last G (back j (play (turnOf s))))) unknown)
-          (sym (heard-other k (s .heard) (2 * turnOf s - j) (λ r. q (omega arith)))))
+          (sym (observed-other k (s .indices) (2 * turnOf s - j) (λ r. q (omega arith)))))
           (bool (eqb j (2 * turnOf s - k)))
 
-      heard-follows : Follows (record { state = observed (s .state) k p; given = s .given; heard = k ∷ s .heard })
+      observed-follows : Follows (record { state = observed (s .state) k p; given = s .given; indices = k ∷ s .indices })
       unfolding slotAt
-      heard-follows =
+      observed-follows =
           record {
             works = f .works;
             acts = f .acts;
@@ -199,37 +199,37 @@ module _ (G : Game) (legal : Legal G) (x : TableSheet) (sound : Sound G x) (w : 
             window-size = length-set (s .state .window) (2 * s .state .turn - k) (seen p) ∙ f .window-size;
             slot =
                 λ j h g.
-                ap (λ n. getD (set (s .state .window) (2 * n - k) (seen p)) j unknown) (f .turn) ∙ heard-slot j h g;
-            unheard = λ j h. heard-other k (s .heard) j (λ r. omega arith) ∙ f .unheard j h;
+                ap (λ n. getD (set (s .state .window) (2 * n - k) (seen p)) j unknown) (f .turn) ∙ observed-slot j h g;
+            unobserved = λ j h. observed-other k (s .indices) j (λ r. omega arith) ∙ f .unobserved j h;
           }
 
-    abbrev heardBy : Answer State → Type 0
-    heardBy a = Right s (hear k p) (afterHearing (s .state) a)
+    abbrev indicesBy : Answer State → Type 0
+    indicesBy a = Right s (observe k p) (afterObserving (s .state) a)
 
-    pub hear-right : (2 * turnOf s ≤ k + x .delay → k ≤ 2 * turnOf s → HasAt G (worked G rule (s .given)) k p)
-        → heardBy (observeWith x (s .state) k p)
-    hear-right true-of =
+    pub observe-right : (2 * turnOf s ≤ k + x .delay → k ≤ 2 * turnOf s → HasAt G (worked G rule (s .given)) k p)
+        → indicesBy (observeWith x (s .state) k p)
+    observe-right true-of =
         let t = f .turn in
         let good = good-state s f in
         ⊎-elim
         (λ (o : x .highest < p).
-        subst heardBy (sym (observe-16 x (s .state) k p good o)) (rw (lt-ltb (x .highest) p o), f))
+        subst indicesBy (sym (observe-16 x (s .state) k p good o)) (rw (lt-ltb (x .highest) p o), f))
         (λ (h : p ≤ x .highest).
         ⊎-elim
         (λ (o : k + x .delay < 2 * turnOf s).
-        subst heardBy (sym (observe-17 x (s .state) k p good h (omega arith)))
+        subst indicesBy (sym (observe-17 x (s .state) k p good h (omega arith)))
         (rw (le-ltb (x .highest) p h, lt-ltb (k + x .delay) (2 * turnOf s) o), f))
         (λ (l : 2 * turnOf s ≤ k + x .delay).
         ⊎-elim
         (λ (o : 2 * turnOf s < k).
-        subst heardBy (sym (observe-18 x (s .state) k p good h (omega arith)))
+        subst indicesBy (sym (observe-18 x (s .state) k p good h (omega arith)))
         (rw (le-ltb (x .highest) p h, le-ltb (k + x .delay) (2 * turnOf s) l, lt-ltb (2 * turnOf s) k o), f))
         (λ (u : k ≤ 2 * turnOf s).
         let e = told (true-of l u) in
-        subst heardBy
-        (sym (observe-accepts x (s .state) k p good h (omega arith) (omega arith) (heard-agrees l u e))) (
+        subst indicesBy
+        (sym (observe-accepts x (s .state) k p good h (omega arith) (omega arith) (observed-agrees l u e))) (
           rw (le-ltb (x .highest) p h, le-ltb (k + x .delay) (2 * turnOf s) l, le-ltb (2 * turnOf s) k u),
-          heard-follows l u e,
+          observed-follows l u e,
         ))
         (below? (2 * turnOf s) k))
         (below? (k + x .delay) (2 * turnOf s)))
@@ -244,12 +244,12 @@ module _ (G : Game) (legal : Legal G) (x : TableSheet) (sound : Sound G x) (w : 
     unfolding reported
     reported-early l = let t = f .turn in either-left _ _ (lt-ltb (2 * s .state .turn) (x .delay) (omega arith))
 
-    reported-late : x .delay ≤ 2 * turnOf s → reported x (s .state) ≡ isHeard s needed
+    reported-late : x .delay ≤ 2 * turnOf s → reported x (s .state) ≡ isObserved s needed
     unfolding reported either
     reported-late g =
         let t = f .turn in
         rw (le-ltb (2 * s .state .turn) (x .delay) (omega arith))
-        (slot-known (isHeard s needed) _ _ (f .slot (x .delay) (omega arith) g))
+        (slot-known (isObserved s needed) _ _ (f .slot (x .delay) (omega arith) g))
 
     -- the word that the state holds is that of the play
     word-is : x .delay / 2 ≤ turnOf s
@@ -269,42 +269,42 @@ module _ (G : Game) (legal : Legal G) (x : TableSheet) (sound : Sound G x) (w : 
         ∙ sym (word-actions (G .actions) (play (turnOf s)) (x .delay / 2))
 
     -- the command of the state's turn is the exact play's
-    command-by : commandIn x (s .state)
-        ≡ commandAt (G .actions) (x .delay) (x .table) (turnOf s) (slotAt (s .state) (x .delay) .position)
+    action-by : nextAction x (s .state)
+        ≡ actionAt (G .actions) (x .delay) (x .table) (turnOf s) (slotAt (s .state) (x .delay) .position)
         (wordOf (G .actions) (take (x .delay / 2) (s .state .last)))
-    unfolding commandIn
-    command-by =
+    unfolding nextAction
+    action-by =
         ap₂
         (λ A n.
-        commandAt A (x .delay) (x .table) n (slotAt (s .state) (x .delay) .position)
+        actionAt A (x .delay) (x .table) n (slotAt (s .state) (x .delay) .position)
         (wordOf A (take (x .delay / 2) (s .state .last))))
         (sound .actions)
         (f .turn)
 
-    exact-command : commandOf G (x .delay) (x .table) (play (turnOf s))
-        ≡ commandAt (G .actions) (x .delay) (x .table) (turnOf s) (last G (back (x .delay) (play (turnOf s))))
+    exact-action : exactChoice G (x .delay) (x .table) (play (turnOf s))
+        ≡ actionAt (G .actions) (x .delay) (x .table) (turnOf s) (last G (back (x .delay) (play (turnOf s))))
         (lastActions (G .actions) (play (turnOf s)) (x .delay / 2))
-    unfolding commandOf
-    exact-command =
+    unfolding exactChoice
+    exact-action =
         ap
         (λ n.
-        commandAt (G .actions) (x .delay) (x .table) n (last G (back (x .delay) (play (turnOf s))))
+        actionAt (G .actions) (x .delay) (x .table) n (last G (back (x .delay) (play (turnOf s))))
         (lastActions (G .actions) (play (turnOf s)) (x .delay / 2)))
         (goes (turnOf s) .turn)
 
-    command-early : 2 * turnOf s < x .delay → commandIn x (s .state) ≡ commandOf G (x .delay) (x .table) (play (turnOf s))
-    command-early l =
-        command-by ∙ early-same (G .actions) (x .delay) (x .table) (turnOf s) _ _ _ _ l ∙ sym exact-command
+    action-early : 2 * turnOf s < x .delay → nextAction x (s .state) ≡ exactChoice G (x .delay) (x .table) (play (turnOf s))
+    action-early l =
+        action-by ∙ early-same (G .actions) (x .delay) (x .table) (turnOf s) _ _ _ _ l ∙ sym exact-action
 
-    command-late : x .delay ≤ 2 * turnOf s → isHeard s needed ≡ true
-        → commandIn x (s .state) ≡ commandOf G (x .delay) (x .table) (play (turnOf s))
-    command-late g known =
+    action-late : x .delay ≤ 2 * turnOf s → isObserved s needed ≡ true
+        → nextAction x (s .state) ≡ exactChoice G (x .delay) (x .table) (play (turnOf s))
+    action-late g known =
         let v : slotAt (s .state) (x .delay) ≡ seen (last G (back (x .delay) (play (turnOf s)))) =
         f .slot (x .delay) (omega arith) g
         ∙ ap (λ b. cond b (seen (last G (back (x .delay) (play (turnOf s))))) unknown) known in
-        command-by
-        ∙ ap₂ (commandAt (G .actions) (x .delay) (x .table) (turnOf s)) (ap (λ (v : Slot). v .position) v) (word-is (omega arith))
-        ∙ sym exact-command
+        action-by
+        ∙ ap₂ (actionAt (G .actions) (x .delay) (x .table) (turnOf s)) (ap (λ (v : Slot). v .position) v) (word-is (omega arith))
+        ∙ sym exact-action
 
     -- a turn later
 
@@ -321,23 +321,23 @@ module _ (G : Game) (legal : Legal G) (x : TableSheet) (sound : Sound G x) (w : 
     -- a slot of age k + 2 is the one of age k a turn before
     shifted-slot : (k : ℕ) → k ≤ x .delay → k ≤ 2 * suc (turnOf s)
         → shiftedAt (x .delay) (s .state .window) k
-        ≡ cond (isHeard s (2 * suc (turnOf s) - k)) (seen (last G (back k (play (suc (turnOf s)))))) unknown
+        ≡ cond (isObserved s (2 * suc (turnOf s) - k)) (seen (last G (back k (play (suc (turnOf s)))))) unknown
     unfolding shiftedAt both slotAt back
-    shifted-slot zero h l = rw (f .unheard (2 * suc (turnOf s) - 0) (omega arith))
-    shifted-slot (suc zero) h l = rw (f .unheard (2 * suc (turnOf s) - 1) (omega arith))
+    shifted-slot zero h l = rw (f .unobserved (2 * suc (turnOf s) - 0) (omega arith))
+    shifted-slot (suc zero) h l = rw (f .unobserved (2 * suc (turnOf s) - 1) (omega arith))
     shifted-slot (suc (suc k)) h l =
         let a : suc (suc k) - 2 ≡ k = omega arith in
         let b : 2 * turnOf s - k ≡ 2 * suc (turnOf s) - suc (suc k) = omega arith in
         rw (le-leb 2 (suc (suc k)) (omega arith), le-leb (suc (suc k)) (x .delay) h)
         (ap (λ j. getD (s .state .window) j unknown) a
         ∙ f .slot k (omega arith) (omega arith)
-        ∙ ap₂ (λ j q. cond (isHeard s j) (seen q) unknown) b
+        ∙ ap₂ (λ j q. cond (isObserved s j) (seen q) unknown) b
         (ap (λ π. last G (back (suc (suc k)) π)) (sym (next-play (turnOf s)))))
 
-    given-follows : turnOf s < million
-        → Follows (record { state = gaveState (x .delay) (s .state) action; given = action ∷ s .given; heard = s .heard })
+    acted-follows : turnOf s < lastTurn
+        → Follows (record { state = actedState (x .delay) (s .state) action; given = action ∷ s .given; indices = s .indices })
     unfolding slotAt actionsOf shifted pushed
-    given-follows m =
+    acted-follows m =
         let n = next-play (turnOf s) in
         let d = sound .short-delay in
         record {
@@ -352,51 +352,51 @@ module _ (G : Game) (legal : Legal G) (x : TableSheet) (sound : Sound G x) (w : 
           slot =
               λ k h l.
               getD-tabulate (shiftedAt (x .delay) (s .state .window)) slots k unknown (omega arith) ∙ shifted-slot k h l;
-          unheard = λ j h. f .unheard j (omega arith);
+          unobserved = λ j h. f .unobserved j (omega arith);
         }
 
-    abbrev givenBy : Answer Gave → Type 0
-    givenBy a = Right s ask (afterGiving (s .state) a)
+    abbrev actionsBy : Answer Acted → Type 0
+    actionsBy a = Right s act (afterActing (s .state) a)
 
     -- the command is given where refusals 15 and 13 pass
-    given-right : turnOf s < million → reported x (s .state) ≡ true
-        → both (leb (x .delay) (2 * turnOf s)) (not (isHeard s needed)) ≡ false
-        → commandIn x (s .state) ≡ commandOf G (x .delay) (x .table) (play (turnOf s)) → givenBy (actWith x (s .state))
-    given-right m r b c =
+    acted-right : turnOf s < lastTurn → reported x (s .state) ≡ true
+        → both (leb (x .delay) (2 * turnOf s)) (not (isObserved s needed)) ≡ false
+        → nextAction x (s .state) ≡ exactChoice G (x .delay) (x .table) (play (turnOf s)) → actionsBy (actWith x (s .state))
+    acted-right m r b c =
         let t = f .turn in
         let g = goes (turnOf s) in
-        subst givenBy
+        subst actionsBy
         (sym
-        (act-gives x (s .state) (good-state s f) (λ (q : s .state .turn ≡ million). omega arith) r action
-        (c ∙ g .commanded))) (
-          rw (ne-eqb (turnOf s) million (λ (q : turnOf s ≡ million). omega arith), b)
-              (ap toGive (sym (ap (λ (r : Run). commandOf G (x .delay) (x .table) (playOf r)) (g .is) ∙ g .commanded))),
-          given-follows m,
+        (act-answers x (s .state) (good-state s f) (λ (q : s .state .turn ≡ lastTurn). omega arith) r action
+        (c ∙ g .has-action))) (
+          rw (ne-eqb (turnOf s) lastTurn (λ (q : turnOf s ≡ lastTurn). omega arith), b)
+              (ap toAct (sym (ap (λ (r : Run). exactChoice G (x .delay) (x .table) (playOf r)) (g .is) ∙ g .has-action))),
+          acted-follows m,
         )
 
-    pub ask-right : givenBy (actWith x (s .state))
+    pub act-right : actionsBy (actWith x (s .state))
     unfolding both
-    ask-right =
+    act-right =
         let t = f .turn in
         let u = f .bound in
         ⊎-elim
-        (λ (e : eqb (turnOf s) million ≡ true).
-        let q : turnOf s ≡ million = eqb-true (turnOf s) million e in
-        subst givenBy (sym (act-15 x (s .state) (good-state s f) (f .turn ∙ q))) (rw e, f))
-        (λ (e : eqb (turnOf s) million ≡ false).
-        let q = eqb-false (turnOf s) million e in
-        let m : turnOf s < million = omega arith in
+        (λ (e : eqb (turnOf s) lastTurn ≡ true).
+        let q : turnOf s ≡ lastTurn = eqb-true (turnOf s) lastTurn e in
+        subst actionsBy (sym (act-15 x (s .state) (good-state s f) (f .turn ∙ q))) (rw e, f))
+        (λ (e : eqb (turnOf s) lastTurn ≡ false).
+        let q = eqb-false (turnOf s) lastTurn e in
+        let m : turnOf s < lastTurn = omega arith in
         ⊎-elim
         (λ (l : 2 * turnOf s < x .delay).
-        given-right m (reported-early l) (rw (lt-leb (x .delay) (2 * turnOf s) l)) (command-early l))
+        acted-right m (reported-early l) (rw (lt-leb (x .delay) (2 * turnOf s) l)) (action-early l))
         (λ (g : x .delay ≤ 2 * turnOf s).
         ⊎-elim
-        (λ (k : isHeard s needed ≡ true).
-        given-right m (reported-late g ∙ k) (both-false (leb (x .delay) (2 * turnOf s)) _ (ap not k)) (command-late g k))
-        (λ (k : isHeard s needed ≡ false).
-        subst givenBy
+        (λ (k : isObserved s needed ≡ true).
+        acted-right m (reported-late g ∙ k) (both-false (leb (x .delay) (2 * turnOf s)) _ (ap not k)) (action-late g k))
+        (λ (k : isObserved s needed ≡ false).
+        subst actionsBy
         (sym (act-13 x (s .state) (good-state s f) (λ r. q (sym t ∙ r)) (reported-late g ∙ k)))
         (rw (e, le-leb (x .delay) (2 * turnOf s) g, k), f))
-        (bool (isHeard s needed)))
+        (bool (isObserved s needed)))
         (below? (2 * turnOf s) (x .delay)))
-        (bool (eqb (turnOf s) million))
+        (bool (eqb (turnOf s) lastTurn))

@@ -10,71 +10,71 @@ use Rattle.theory.specs.Fold.{both, anyOf}
 use Rattle.theory.specs.Answer.{Answer, refused, accepted}
 use Rattle.theory.specs.Game.{Game}
 use Rattle.theory.specs.Play.{last, index, back, actionsOf, Rule}
-use Rattle.theory.specs.Exact.{Command, missing, give, Run, going, playOf, commandOf, exact, worked}
+use Rattle.theory.specs.Exact.{MaybeAction, none, some, Run, going, playOf, exactChoice, exact, worked}
 use Rattle.table.specs.TableSheet.{TableSheet, decode}
-use Rattle.state.specs.State.{million, opened}
-use Rattle.controller.specs.Controller.{Gave, openAnswer, observeAnswer, actAnswer}
+use Rattle.state.specs.State.{lastTurn, opened}
+use Rattle.controller.specs.Controller.{Acted, openAnswer, observeAnswer, actAnswer}
 use Rattle.state.specs.declared.state.State.{State}
 
 -- "Its calls are hearing and giving": hear a position at an index, ask for the command
 pub data Call : Type 0 where
-  hear : ℕ → ℕ → Call
-  ask : Call
+  observe : ℕ → ℕ → Call
+  act : Call
 
-pub data Outcome : Type 0 where
-  accepts : Outcome
-  gives : ℕ → Outcome
-  refuses : ℕ → Outcome
+pub data Response : Type 0 where
+  accepts : Response
+  acts : ℕ → Response
+  refuses : ℕ → Response
 
 pub record Reply : Type 0 where
-  pub outcome : Outcome
+  pub response : Response
   pub state : State
 
 -- "after a refusal" the state is "the one that call was given"
-abbrev pub afterHearing : State → Answer State → Reply
-afterHearing s (refused n) = record { outcome = refuses n; state = s }
-afterHearing s (accepted next) = record { outcome = accepts; state = next }
+abbrev pub afterObserving : State → Answer State → Reply
+afterObserving s (refused n) = record { response = refuses n; state = s }
+afterObserving s (accepted next) = record { response = accepts; state = next }
 
-abbrev pub afterGiving : State → Answer Gave → Reply
-afterGiving s (refused n) = record { outcome = refuses n; state = s }
-afterGiving s (accepted g) = record { outcome = gives (g .action); state = g .state }
+abbrev pub afterActing : State → Answer Acted → Reply
+afterActing s (refused n) = record { response = refuses n; state = s }
+afterActing s (accepted g) = record { response = acts (g .action); state = g .state }
 
 -- what the public operations answer and leave, from the sheet's bytes and the state
 abbrev pub reply : List ℕ → State → Call → Reply
-reply t s (hear k p) = afterHearing s (observeAnswer t s k p)
-reply t s ask = afterGiving s (actAnswer t s)
+reply t s (observe k p) = afterObserving s (observeAnswer t s k p)
+reply t s act = afterActing s (actAnswer t s)
 
 -- after some calls: the state, the actions given and the indices heard, newest first
 pub record Progress : Type 0 where
   pub state : State
   pub given : List ℕ
-  pub heard : List ℕ
+  pub indices : List ℕ
 
 -- "the list starts from the state" that opening gives
 abbrev pub begun : Progress
-begun = record { state = opened; given = []; heard = [] }
+begun = record { state = opened; given = []; indices = [] }
 
 -- "i is the number of commands given so far"
 abbrev pub turnOf : Progress → ℕ
 turnOf s = length (s .given)
 
-abbrev pub givenBy : Outcome → List ℕ → List ℕ
-givenBy accepts given = given
-givenBy (gives a) given = a ∷ given
-givenBy (refuses n) given = given
+abbrev pub actionsBy : Response → List ℕ → List ℕ
+actionsBy accepts given = given
+actionsBy (acts a) given = a ∷ given
+actionsBy (refuses n) given = given
 
 -- "An index is heard once a hearing that named it was accepted"
-abbrev pub heardBy : Call → Outcome → List ℕ → List ℕ
-heardBy (hear k p) accepts heard = k ∷ heard
-heardBy (hear k p) (gives a) heard = heard
-heardBy (hear k p) (refuses n) heard = heard
-heardBy ask accepts heard = heard
-heardBy ask (gives a) heard = heard
-heardBy ask (refuses n) heard = heard
+abbrev pub indicesBy : Call → Response → List ℕ → List ℕ
+indicesBy (observe k p) accepts indices = k ∷ indices
+indicesBy (observe k p) (acts a) indices = indices
+indicesBy (observe k p) (refuses n) indices = indices
+indicesBy act accepts indices = indices
+indicesBy act (acts a) indices = indices
+indicesBy act (refuses n) indices = indices
 
 abbrev pub after : Progress → Call → Reply → Progress
 after s c r =
-    record { state = r .state; given = givenBy (r .outcome) (s .given); heard = heardBy c (r .outcome) (s .heard) }
+    record { state = r .state; given = actionsBy (r .response) (s .given); indices = indicesBy c (r .response) (s .indices) }
 
 -- each call "gets that same sheet and the state the call before it left"
 unfoldable pub callStep : List ℕ → Progress → Call → Progress
@@ -89,60 +89,60 @@ abbrev pub HasAt : Game → Run → ℕ → ℕ → Type 0
 HasAt G run k p = (k ≤ index (playOf run)) × (last G (back (index (playOf run) - k) (playOf run)) ≡ p)
 
 -- "A report is true if the worked play has its position at its index"; asked of "every report of an index from 2i - d to 2i"
-abbrev pub True : Game → List ℕ → Rule → Progress → Call → Type 0
-True G t rule s (hear k p) =
+abbrev pub IsTrue : Game → List ℕ → Rule → Progress → Call → Type 0
+IsTrue G t rule s (observe k p) =
     2 * turnOf s ≤ k + decode t .delay → k ≤ 2 * turnOf s → HasAt G (worked G rule (s .given)) k p
-True G t rule s ask = Unit {0}
+IsTrue G t rule s act = Unit {0}
 
 unfoldable pub Truthful : Game → List ℕ → Rule → Progress → List Call → Type 0
 Truthful G t rule s [] = Unit {0}
-Truthful G t rule s (c ∷ later) = True G t rule s c × Truthful G t rule (callStep t s c) later
+Truthful G t rule s (c ∷ later) = IsTrue G t rule s c × Truthful G t rule (callStep t s c) later
 
-abbrev pub isHeard : Progress → ℕ → Bool
-isHeard s k = anyOf (λ j. eqb j k) (s .heard)
+abbrev pub isObserved : Progress → ℕ → Bool
+isObserved s k = anyOf (λ j. eqb j k) (s .indices)
 
 -- the exact play of a table sheet, and its command of turn i
 abbrev pub exactPlay : Game → TableSheet → Rule → ℕ → Run
 exactPlay G x rule n = exact G (x .delay) (x .table) rule n
 
-abbrev pub exactCommand : Game → TableSheet → Rule → ℕ → Command
-exactCommand G x rule i = commandOf G (x .delay) (x .table) (playOf (exactPlay G x rule i))
+abbrev pub exactAction : Game → TableSheet → Rule → ℕ → MaybeAction
+exactAction G x rule i = exactChoice G (x .delay) (x .table) (playOf (exactPlay G x rule i))
 
 -- a missing command would be refused; `endless` below says that the exact play has none
-abbrev pub toGive : Command → Outcome
-toGive missing = refuses 14
-toGive (give a) = gives a
+abbrev pub toAct : MaybeAction → Response
+toAct none = refuses 14
+toAct (some a) = acts a
 
 -- "At each call hearing answers 16 if the position is over the highest, else 17 below index 2i - d, 18 over 2i, else accepts.
 -- Giving answers 15 if i is 1,000,000, else 13 exactly if 2i is at least d and index 2i - d is unheard, else the exact play's
 -- command of turn i"
-abbrev pub rightAnswer : Game → TableSheet → Rule → Progress → Call → Outcome
-rightAnswer G x rule s (hear k p) =
+abbrev pub rightAnswer : Game → TableSheet → Rule → Progress → Call → Response
+rightAnswer G x rule s (observe k p) =
     cond (ltb (x .highest) p) (refuses 16)
     (cond (ltb (k + x .delay) (2 * turnOf s)) (refuses 17) (cond (ltb (2 * turnOf s) k) (refuses 18) accepts))
-rightAnswer G x rule s ask =
-    cond (eqb (turnOf s) million) (refuses 15)
-    (cond (both (leb (x .delay) (2 * turnOf s)) (not (isHeard s (2 * turnOf s - x .delay)))) (refuses 13)
-    (toGive (exactCommand G x rule (turnOf s))))
+rightAnswer G x rule s act =
+    cond (eqb (turnOf s) lastTurn) (refuses 15)
+    (cond (both (leb (x .delay) (2 * turnOf s)) (not (isObserved s (2 * turnOf s - x .delay)))) (refuses 13)
+    (toAct (exactAction G x rule (turnOf s))))
 
 -- every call of the list has the right answer
 unfoldable pub Answered : Game → List ℕ → Rule → Progress → List Call → Type 0
 Answered G t rule s [] = Unit {0}
 Answered G t rule s (c ∷ later) =
-    (reply t (s .state) c .outcome ≡ rightAnswer G (decode t) rule s c) × Answered G t rule (callStep t s c) later
+    (reply t (s .state) c .response ≡ rightAnswer G (decode t) rule s c) × Answered G t rule (callStep t s c) later
 
 -- the play "does not end and has only safe positions", and has a command next
 pub record GoesSafely (G : Game) (x : TableSheet) (rule : Rule) (n : ℕ) : Type 0 where
   pub goes : exactPlay G x rule n ≡ going (playOf (exactPlay G x rule n))
   pub safely : (k : ℕ) → G .safe (last G (back k (playOf (exactPlay G x rule n)))) ≡ true
-  pub commanded : (c : ℕ) × (exactCommand G x rule n ≡ give c)
+  pub has-action : (c : ℕ) × (exactAction G x rule n ≡ some c)
 
 -- the claim, for a list of calls
 pub record Accurate (G : Game) (t : List ℕ) (rule : Rule) (calls : List Call) : Type 0 where
   -- "Opening accepts the made sheet"
   pub opens : openAnswer t ≡ accepted opened
   -- "Over its first 1,000,000 turns the exact play does not end and has only safe positions"
-  pub endless : (n : ℕ) → n ≤ million → GoesSafely G (decode t) rule n
+  pub endless : (n : ℕ) → n ≤ lastTurn → GoesSafely G (decode t) rule n
   -- "After the list the commands given, in order, are those of its first i turns"
   pub given : runCalls t begun calls .given ≡ actionsOf (playOf (exactPlay G (decode t) rule (turnOf (runCalls t begun calls))))
   -- "and the worked play is the exact play up to index 2i"

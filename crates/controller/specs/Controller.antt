@@ -7,9 +7,9 @@ use lib.Dec.{eqb, leb, ltb}
 use lib.ListN.{take}
 use Rattle.theory.specs.Fold.{either}
 use Rattle.theory.specs.Answer.{Answer, refused, accepted, check, onAccepted}
-use Rattle.theory.specs.Exact.{Command, missing, give, commandAt}
+use Rattle.theory.specs.Exact.{MaybeAction, none, some, actionAt}
 use Rattle.table.specs.TableSheet.{TableSheet, tableAnswer}
-use Rattle.state.specs.State.{million, opened, slotAt, agrees, stateOk, observed, gaveState}
+use Rattle.state.specs.State.{lastTurn, opened, slotAt, agrees, stateOk, observed, actedState}
 use Rattle.state.specs.declared.state.State.{State}
 
 -- "20; 16: position over the highest; 17: index below 2i - d (never below 0); 18: index over 2i; 19: that index heard with
@@ -27,20 +27,20 @@ wordOf A [] = 0
 wordOf A (a ∷ older) = wordOf A older * A + a
 
 -- an action, and the state after it
-pub record Gave : Type 0 where
+pub record Acted : Type 0 where
   pub action : ℕ
   pub state : State
 
 -- "14: the mask of that report's pair is 0"
-unfoldable pub obey : TableSheet → State → Command → Answer Gave
-obey x s missing = refused 14
-obey x s (give a) = accepted (record { action = a; state = gaveState (x .delay) s a })
+unfoldable pub obey : TableSheet → State → MaybeAction → Answer Acted
+obey x s none = refused 14
+obey x s (some a) = accepted (record { action = a; state = actedState (x .delay) s a })
 
 -- the command of the state's turn, by the rule of the exact play: from the report of index 2i - d and the last L commands.
 -- "Fresher reports have no say"
-unfoldable pub commandIn : TableSheet → State → Command
-commandIn x s =
-    commandAt (x .actions) (x .delay) (x .table) (s .turn) (slotAt s (x .delay) .position)
+unfoldable pub nextAction : TableSheet → State → MaybeAction
+nextAction x s =
+    actionAt (x .actions) (x .delay) (x .table) (s .turn) (slotAt s (x .delay) .position)
     (wordOf (x .actions) (take (x .delay / 2) (s .last)))
 
 -- what refusal 13 leaves: 2i is below d, or index 2i - d is heard
@@ -48,10 +48,10 @@ unfoldable pub reported : TableSheet → State → Bool
 reported x s = either (ltb (2 * s .turn) (x .delay)) (slotAt s (x .delay) .known)
 
 -- "20; 15: turn is 1,000,000; 13: 2i is at least d and index 2i - d is unheard; 14"
-unfoldable pub actWith : TableSheet → State → Answer Gave
+unfoldable pub actWith : TableSheet → State → Answer Acted
 actWith x s =
     check (stateOk x s) 20
-    (check (not (eqb (s .turn) million)) 15 (check (reported x s) 13 (obey x s (commandIn x s))))
+    (check (not (eqb (s .turn) lastTurn)) 15 (check (reported x s) 13 (obey x s (nextAction x s))))
 
 -- the operations over a sheet's bytes: each reads them, "10 to 12", on every call
 unfoldable pub openAnswer : List ℕ → Answer State
@@ -60,5 +60,5 @@ openAnswer t = onAccepted (tableAnswer t) (λ x. accepted opened)
 unfoldable pub observeAnswer : List ℕ → State → ℕ → ℕ → Answer State
 observeAnswer t s k p = onAccepted (tableAnswer t) (λ x. observeWith x s k p)
 
-unfoldable pub actAnswer : List ℕ → State → Answer Gave
+unfoldable pub actAnswer : List ℕ → State → Answer Acted
 actAnswer t s = onAccepted (tableAnswer t) (λ x. actWith x s)

@@ -7,24 +7,24 @@ use Rattle.sheet.specs.Limits.{mostActions, mostDelay}
 use Rattle.table.specs.TableSheet.{TableSheet}
 use Rattle.state.specs.State.{opened}
 use Rattle.controller.specs.Controller.{openAnswer}
-use Rattle.controller.specs.Accuracy.{Outcome, accepts, gives, refuses, Reply, afterHearing}
+use Rattle.controller.specs.Accuracy.{Response, accepts, acts, refuses, Reply, afterObserving}
 use Rattle.controller.specs.declared.calls.Decision.{Decision}
-use Rattle.controller.specs.declared.calls.Decision.the-variants.{Accepted, Given, Refused}
+use Rattle.controller.specs.declared.calls.Decision.the-variants.{Accepted, Acted, Refused}
 use Rattle.controller.specs.declared.calls.Step.{Step}
 
 -- document 01's number and values for every case of the code's answer
-abbrev pub outcomeOf : Decision → Outcome
-outcomeOf Accepted = accepts
-outcomeOf (Given a) = gives a
-outcomeOf (Refused r) = refuses (numberOf r)
+abbrev pub responseOf : Decision → Response
+responseOf Accepted = accepts
+responseOf (Acted a) = acts a
+responseOf (Refused r) = refuses (numberOf r)
 
 -- the answer and the next state
-abbrev pub meaning : Step → Reply
-meaning r = record { outcome = outcomeOf (r .decision); state = r .state }
+abbrev pub stepMeans : Step → Reply
+stepMeans r = record { response = responseOf (r .decision); state = r .state }
 
 -- opening has no state before it: beside a refusal stands the opened one
 unfoldable pub openReply : List ℕ → Reply
-openReply t = afterHearing opened (openAnswer t)
+openReply t = afterObserving opened (openAnswer t)
 
 -- what a readable sheet's numbers and masks are
 pub record Usable (x : TableSheet) : Type 0 where

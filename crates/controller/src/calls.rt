@@ -1,8 +1,8 @@
 // Opening, hearing a report and giving a command, over the bytes of a table sheet: each reads them on every call.
-use crate::commands::action_of;
-use crate::commands::least_flagged;
-use crate::commands::lowest;
-use crate::commands::mask_at;
+use crate::turn::action_of;
+use crate::turn::least_flagged;
+use crate::turn::lowest;
+use crate::turn::mask_at;
 use sheet::form::part;
 use sheet::form::wide;
 use sheet::refusal::Refusal;
@@ -23,15 +23,15 @@ ghost use mathlib.Core.List.{[]};
 ghost use Prim.Native.Nat.{_≤_, _<_};
 ghost use Rattle.table.specs.TableSheet.{says};
 ghost use Rattle.sheet.specs.Limits.{mostDelay};
-ghost use Rattle.state.specs.State.{million, gaveState};
+ghost use Rattle.state.specs.State.{lastTurn, actedState};
 ghost use Rattle.controller.specs.Controller.{observeWith, actWith};
-ghost use Rattle.controller.specs.Accuracy.{hear, ask, afterHearing, afterGiving, reply};
-ghost use Rattle.controller.specs.Meaning.{meaning, openReply, Usable};
+ghost use Rattle.controller.specs.Accuracy.{observe, act, afterObserving, afterActing, reply};
+ghost use Rattle.controller.specs.Meaning.{stepMeans, openReply, Usable};
 
 // What a call answers.
 pub enum Decision {
     Accepted,
-    Given(u8),
+    Acted(u8),
     Refused(Refusal),
 }
 
@@ -59,9 +59,9 @@ fn accept(s: State) -> Step
     }
 }
 
-fn give(delay: u8, s: State, action: u8) -> Step
-    requires { ⌜ s .turn < million ⌝ }
-    ensures { λ r. ⌜ r ≡ record { decision = Decision.Given action; state = gaveState delay s action } ⌝ }
+fn take_turn(delay: u8, s: State, action: u8) -> Step
+    requires { ⌜ s .turn < lastTurn ⌝ }
+    ensures { λ r. ⌜ r ≡ record { decision = Decision.Acted action; state = actedState delay s action } ⌝ }
 {
     let last = s.last;
     let window = s.window;
@@ -73,7 +73,7 @@ fn give(delay: u8, s: State, action: u8) -> Step
         window: later,
     };
     Step {
-        decision: Decision::Given(action),
+        decision: Decision::Acted(action),
         state: next,
     }
 }
@@ -81,7 +81,7 @@ fn give(delay: u8, s: State, action: u8) -> Step
 // Hearing, after 10 to 12.
 fn observe_with(l: TableLayout, s: State, index: usize, position: u8) -> Step
     requires { ⌜ l .delay ≤ mostDelay ⌝ }
-    ensures { λ r. ⌜ meaning r ≡ afterHearing s (observeWith (says l [] []) s index position) ⌝ }
+    ensures { λ r. ⌜ stepMeans r ≡ afterObserving s (observeWith (says l [] []) s index position) ⌝ }
 {
     if !state_ok(l, s) {
         return refuse(s, Refusal::State);
@@ -112,7 +112,7 @@ fn observe_with(l: TableLayout, s: State, index: usize, position: u8) -> Step
 // Giving, after 10 to 12, with the W and T bodies.
 fn act_with(l: TableLayout, flags: &[u8], masks: &[u8], s: State) -> Step
     requires { ⌜ Usable (says l (now flags) (now masks)) ⌝ }
-    ensures { λ r. ⌜ meaning r ≡ afterGiving s (actWith (says l (now (flags .entry)) (now (masks .entry))) s) ⌝ }
+    ensures { λ r. ⌜ stepMeans r ≡ afterActing s (actWith (says l (now (flags .entry)) (now (masks .entry))) s) ⌝ }
 {
     if !state_ok(l, s) {
         return refuse(s, Refusal::State);
@@ -124,7 +124,7 @@ fn act_with(l: TableLayout, flags: &[u8], masks: &[u8], s: State) -> Step
     let delay = wide(l.delay);
     if 2 * turn < delay {
         let word = least_flagged(flags);
-        return give(
+        return take_turn(
             l.delay,
             s,
             action_of(l.actions, (delay + 1) / 2, word, turn),
@@ -140,12 +140,12 @@ fn act_with(l: TableLayout, flags: &[u8], masks: &[u8], s: State) -> Step
     if mask == 0 {
         return refuse(s, Refusal::NoAction);
     }
-    give(l.delay, s, lowest(mask))
+    take_turn(l.delay, s, lowest(mask))
 }
 
 // Opening. Beside a refusal stands the opened state too.
 pub fn opening(sheet: &[u8]) -> Step
-    ensures { λ r. ⌜ meaning r ≡ openReply (now (sheet .entry)) ⌝ }
+    ensures { λ r. ⌜ stepMeans r ≡ openReply (now (sheet .entry)) ⌝ }
 {
     let s = opened();
     match read(sheet) {
@@ -156,7 +156,7 @@ pub fn opening(sheet: &[u8]) -> Step
 
 // Hearing a report: a position at an index.
 pub fn observe(sheet: &[u8], s: State, index: usize, position: u8) -> Step
-    ensures { λ r. ⌜ meaning r ≡ reply (now (sheet .entry)) s (hear index position) ⌝ }
+    ensures { λ r. ⌜ stepMeans r ≡ reply (now (sheet .entry)) s (observe index position) ⌝ }
 {
     match read(sheet) {
         TableReading::Accepted(l) => observe_with(l, s, index, position),
@@ -166,7 +166,7 @@ pub fn observe(sheet: &[u8], s: State, index: usize, position: u8) -> Step
 
 // Giving the command of the state's turn.
 pub fn act(sheet: &[u8], s: State) -> Step
-    ensures { λ r. ⌜ meaning r ≡ reply (now (sheet .entry)) s ask ⌝ }
+    ensures { λ r. ⌜ stepMeans r ≡ reply (now (sheet .entry)) s act ⌝ }
 {
     match read(sheet) {
         TableReading::Accepted(l) => {

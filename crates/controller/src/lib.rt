@@ -1,3 +1,3 @@
 // The controller: document 01's cabin, over the bytes of a table sheet and a state by value (refusals 10 to 20).
-pub mod commands; // the command of a turn
+pub mod turn; // the command of a turn
 pub mod calls; // opening, hearing and giving

@@ -9,18 +9,18 @@ use Rattle.theory.specs.Words.{digit}
 use Rattle.theory.specs.Table.{bit}
 use Rattle.theory.specs.Rounds.{bad, spoiltBy, fell, falls, rankIn, ranksAfter, finalRanks, kept, maskBelow, maskAt, masksBy, masks}
 use Rattle.theory.specs.Delay.{odd, words, initialWords, onRight, withWord, movedTo, playedTo, outcomes, step, arena, keptAt, goodBy, goodFrom, goodWith, winning, flags, answerBy, answer}
-use Rattle.sheet.specs.Form.{numberAt, entrySize, letterOf, offsetOf, lengthOf, placeOf, entryOk, contentsOk, placedAt, partAt, bodyOf}
+use Rattle.sheet.specs.Form.{entrySize, letterOf, offsetOf, lengthOf, placeOf, entryOk, contentsOk, placedAt, partAt, bodyOf}
+use Rattle.theory.specs.Bytes.{numberAt}
 use Rattle.sheet.specs.Kinds.{kindOf, kindAt, isKnown, isController, isEnvironment, isSafe, knownAt, controllerAt, environmentAt, safeAt}
 use Rattle.sheet.specs.Checks.{positionsOk, headerOk, keyAt, risesAt, targetOk, targetsOk, moveOk, movesOk, beginsAt, hasLine, leavesAt, allLeave, nodesOf, sizeOk}
 use Rattle.sheet.specs.Reading.{startOf, actionCount, delayOf, layoutOf, readAnswer}
-use Rattle.sheet.specs.Meant.{isLine, targetIn, movesIn, targetOf, movesOf, gameOf}
+use Rattle.sheet.specs.SheetGame.{isLine, targetIn, movesIn, targetOf, movesOf, gameOf}
 use Rattle.sheet.specs.Cases.{guess, twoBytes, contentsFrom, sheetWith, guessS}
 use Rattle.text.specs.Ascii.{ascii}
 use Rattle.text.specs.Page.{textsFrom}
 use Rattle.text.specs.Numbers.{glyph, decimalBy, decimalOf}
 use Rattle.text.specs.Fields.{digitText, wordText, actionText, setText, fieldText, positionText, nodeText}
-use Rattle.text.specs.Lines.{fieldLine, losingLine, refusedLine, winningLine, headLine, startLine, allowLine, rankLine}
-use Rattle.text.specs.Lines.{startAt, startLines, allowAt, allowLines, rankAt, rankLines}
+use Rattle.text.specs.Lines.{fieldLine, losingLine, refusedLine, winningLine, headLine, startLine, allowLine, rankLine, startAt, startLines, allowAt, allowLines, rankAt, rankLines}
 use Rattle.lister.specs.Listing.{wonText, lostText, gameText, readText, listingOf, programText}
 
 pub listings : record {

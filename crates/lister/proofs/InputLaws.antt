@@ -7,7 +7,7 @@ use lib.ListN.{length, take}
 use borrow.Author.Needs.{needs}
 use borrow.Author.Tests.{lt-ltb, le-ltb}
 use Rattle.theory.specs.Answer.{refused, onAccepted}
-use Rattle.sheet.specs.Reading.{readAnswer, meaning, refusalNumber}
+use Rattle.sheet.specs.Reading.{readAnswer, readingMeans, refusalNumber}
 use Rattle.sheet.specs.declared.refusal.Refusal.{Refusal}
 use Rattle.sheet.specs.declared.reading.Reading.{Reading}
 use Rattle.sheet.specs.declared.reading.Reading.the-variants.{Refused}
@@ -15,7 +15,7 @@ use Rattle.sheet.proofs.Accepted.{read-accepted, read-refused}
 use Rattle.text.specs.Page.{Page, page, puts}
 use Rattle.text.specs.Lines.{refusedLine}
 use Rattle.text.proofs.Page.{place-within}
-use Rattle.solver.specs.Solving.{solveAnswer, masksAfter, ranksLeft}
+use Rattle.solver.specs.Solving.{solveAnswer, masksLeft, ranksLeft}
 use Rattle.lister.specs.Listing.{solvedText, textWith, masksWith, ranksWith}
 use Rattle.lister.proofs.SolvedLaws.{part-count}
 
@@ -39,7 +39,7 @@ module _ (s : List ℕ) (h : length s ≤ 16384) where
   unfolding textWith
   solved-text m n p e = rw (le-ltb 16384 (length s) h) e
 
-  pub solved-masks : (n : ℕ) (b : List ℕ) {ms : List ℕ} → ms ≡ masksAfter s (solveAnswer s (length b) n) b → ms ≡ masksWith s n b
+  pub solved-masks : (n : ℕ) (b : List ℕ) {ms : List ℕ} → ms ≡ masksLeft s (solveAnswer s (length b) n) b → ms ≡ masksWith s n b
   unfolding masksWith
   solved-masks n b e = rw (le-ltb 16384 (length s) h) e
 
@@ -48,7 +48,7 @@ module _ (s : List ℕ) (h : length s ≤ 16384) where
   solved-ranks n b e = rw (le-ltb 16384 (length s) h) e
 
 -- a reading r that was refused is what solving refuses
-module _ (s : List ℕ) (r : Reading) (told : meaning r ≡ readAnswer s) (why : Refusal) (k : ℕ) (e : r ≡ Refused why) (f : k ≡ refusalNumber r) where
+module _ (s : List ℕ) (r : Reading) (told : readingMeans r ≡ readAnswer s) (why : Refusal) (k : ℕ) (e : r ≡ Refused why) (f : k ≡ refusalNumber r) where
   refused-solved : (m n : ℕ) → solveAnswer s m n ≡ refused k
   unfolding solveAnswer onAccepted
   refused-solved m n = rw (read-refused s r told why k e f)
@@ -59,7 +59,7 @@ module _ (s : List ℕ) (r : Reading) (told : meaning r ≡ readAnswer s) (why :
     refused-text m n p g i = solved-text s h m n p (rw (refused-solved m n, ← g) i)
 
     pub refused-masks : (n : ℕ) (b : List ℕ) → b ≡ masksWith s n b
-    unfolding masksAfter
+    unfolding masksLeft
     refused-masks n b = solved-masks s h n b (rw (refused-solved (length b) n))
 
     pub refused-ranks : (n : ℕ) (b : List ℕ) → b ≡ ranksWith s n b

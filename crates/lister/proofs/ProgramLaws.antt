@@ -19,14 +19,15 @@ use Rattle.theory.proofs.Answer.{check-passed}
 use Rattle.theory.proofs.Rounds.{final-length, final-le}
 use Rattle.theory.proofs.Region.{length-masks}
 use Rattle.sheet.specs.Reading.{readAnswer, delayOf}
-use Rattle.sheet.specs.Meant.{gameOf}
+use Rattle.sheet.specs.SheetGame.{gameOf}
 use Rattle.sheet.specs.declared.reading.Layout.{Layout}
 use Rattle.sheet.proofs.Accepted.{Ranges, read-is, ranges, arena-nodes}
 use Rattle.text.specs.Page.{Page, page, puts}
 use Rattle.text.proofs.Page.{written}
 use Rattle.text.proofs.Lines.{length-winning}
 use Rattle.text.proofs.Sizes.{refused-size, losing-size, head-size, starts-size, allows-size, ranks-size}
-use Rattle.solver.specs.Solving.{solveAnswer, over}
+use Rattle.solver.specs.Solving.{solveAnswer}
+use Rattle.theory.specs.Buffer.{over}
 use Rattle.lister.specs.Listing.{wonText, lostText, gameText, readText, listingOf, programText, solvedText, textWith}
 use Rattle.lister.proofs.SolvedLaws.{losing-within}
 use Rattle.lister.proofs.Words.{few-words, flags-length}

@@ -12,22 +12,23 @@ use Rattle.theory.specs.Delay.{wins, losing, arena, answer}
 use Rattle.theory.proofs.Answer.{check-accepted, accepted-on}
 use Rattle.theory.proofs.Rounds.{final-length}
 use Rattle.theory.proofs.Region.{length-masks}
-use Rattle.theory.proofs.Waiting.{answer-least}
+use Rattle.theory.proofs.Monotone.{answer-least}
 use Rattle.sheet.specs.Checks.{powerTo, nodesOf}
 use Rattle.sheet.specs.Reading.{readAnswer, delayOf}
-use Rattle.sheet.specs.Meant.{gameOf}
+use Rattle.sheet.specs.SheetGame.{gameOf}
 use Rattle.sheet.specs.declared.reading.Layout.{Layout}
 use Rattle.sheet.proofs.Accepted.{read-is, ranges, carries, arena-nodes}
 use Rattle.sheet.proofs.Legality.{legal-game}
 use Rattle.sheet.proofs.SizeLaws.{nodes-small}
 use Rattle.text.specs.Page.{Page, puts}
 use Rattle.text.specs.Lines.{refusedLine}
-use Rattle.solver.specs.Solving.{Solved, solveAnswer, solvedDelay, over, masksAfter, ranksLeft, meaning}
+use Rattle.solver.specs.Solving.{Solved, solveAnswer, solvedDelay, masksLeft, ranksLeft, solutionMeans}
+use Rattle.theory.specs.Buffer.{over}
 use Rattle.solver.specs.declared.solve.Solution.{Solution}
 use Rattle.solver.specs.declared.solve.Solution.the-variants as solution
 use Rattle.lister.specs.Listing.{wonText, lostText, gameText, solvedText}
 use Rattle.lister.specs.Parts.{flagsIn}
-use Rattle.solver.proofs.Over.{over-first, over-room}
+use Rattle.theory.proofs.Buffer.{over-first, over-room}
 use Rattle.lister.proofs.Words.{flags-are}
 
 -- what solving accepts was read, and its verdict is the answer
@@ -103,21 +104,21 @@ module _ (s : List ℕ) (mb rb : List ℕ) where
   abbrev solved : Answer Solved
   solved = solveAnswer s (length mb) (length rb)
 
-  pub refused-text : {n x : ℕ} (r : Solution) (p : Page) {q : Page} → r ≡ solution.Refused n → meaning r ≡ solved → x ≡ n
+  pub refused-text : {n x : ℕ} (r : Solution) (p : Page) {q : Page} → r ≡ solution.Refused n → solutionMeans r ≡ solved → x ≡ n
       → q ≡ puts p (refusedLine x) → q ≡ puts p (solvedText s solved)
   unfolding solvedText
   refused-text r p e told f g =
-      let a : solved ≡ refused _ = sym told ∙ ap meaning e in
+      let a : solved ≡ refused _ = sym told ∙ ap solutionMeans e in
       rw (a, ← f) g
 
   module _ (l x : Layout) (r : Solution) (read : readAnswer s ≡ accepted l) where
     -- winning: the buffers are filled for the asked delay
-    module _ (e : r ≡ solution.Winning x) (told : meaning r ≡ solved) where
+    module _ (e : r ≡ solution.Winning x) (told : solutionMeans r ≡ solved) where
       won-answer : solved ≡ accepted (record { verdict = wins; layout = x })
-      won-answer = sym told ∙ ap meaning e
+      won-answer = sym told ∙ ap solutionMeans e
 
-      won-masks : (ms : List ℕ) → ms ≡ masksAfter s solved mb → ms ≡ over (masks (arena (gameOf s) (l .delay))) mb
-      unfolding masksAfter solvedDelay
+      won-masks : (ms : List ℕ) → ms ≡ masksLeft s solved mb → ms ≡ over (masks (arena (gameOf s) (l .delay))) mb
+      unfolding masksLeft solvedDelay
       won-masks ms f = rw (carries s l read .delay) (f ∙ rw won-answer)
 
       won-ranks : (rs : List ℕ) → rs ≡ ranksLeft s solved rb → rs ≡ over (finalRanks (arena (gameOf s) (l .delay))) rb
@@ -128,10 +129,10 @@ module _ (s : List ℕ) (mb rb : List ℕ) where
         won-nodes : n ≡ nodesOf (l .positions .size) (l .actions) (l .delay)
         won-nodes = counted s l (l .delay) n read (omega (arith, carries s l read .delay)) is
 
-        pub won-masks-room : ms ≡ masksAfter s solved mb → n ≤ length ms
+        pub won-masks-room : ms ≡ masksLeft s solved mb → n ≤ length ms
         won-masks-room f = rw (won-masks ms f) (masks-room s l (l .delay) read mb n won-nodes)
 
-        pub won-text : (p : Page) {q : Page} → ms ≡ masksAfter s solved mb → rs ≡ ranksLeft s solved rb
+        pub won-text : (p : Page) {q : Page} → ms ≡ masksLeft s solved mb → rs ≡ ranksLeft s solved rb
             → q ≡ puts p (wonText (l .delay) (l .positions .size) (l .actions) (flagsIn s rs) (take n ms))
             → q ≡ puts p (solvedText s solved)
         unfolding solvedText gameText
@@ -148,9 +149,9 @@ module _ (s : List ℕ) (mb rb : List ℕ) where
             (won-same (c .delay) (sym (positions-are s l read)) (sym (actions-are s l read)) good (rw (c .delay) at firstMasks)))
 
     -- losing: they are filled for the least delay that loses
-    module _ (m : ℕ) (e : r ≡ solution.Losing m x) (told : meaning r ≡ solved) where
+    module _ (m : ℕ) (e : r ≡ solution.Losing m x) (told : solutionMeans r ≡ solved) where
       lost-answer : solved ≡ accepted (record { verdict = losing m; layout = x })
-      lost-answer = sym told ∙ ap meaning e
+      lost-answer = sym told ∙ ap solutionMeans e
 
       lost-early : m ≤ delayOf s
       lost-early = losing-within s l m read (solved-is s (length mb) (length rb) _ lost-answer .1)

@@ -13,13 +13,13 @@ use Rattle.theory.specs.Rounds.{finalRanks}
 use Rattle.theory.specs.Delay.{arena, flags, initialWords}
 use Rattle.theory.proofs.Fold.{length-tabulate}
 use Rattle.sheet.specs.Reading.{readAnswer, delayOf}
-use Rattle.sheet.specs.Meant.{gameOf}
+use Rattle.sheet.specs.SheetGame.{gameOf}
 use Rattle.sheet.specs.declared.reading.Layout.{Layout}
 use Rattle.sheet.proofs.Accepted.{read-is, ranges}
 use Rattle.solver.specs.Flags.{flagWith, flagsCount, flagsAfter}
 use Rattle.solver.proofs.FlagLaws.{words-counted, flags-theory}
 use Rattle.lister.specs.Parts.{blank, flagsIn}
-use Rattle.solver.proofs.Over.{over-first, over-room}
+use Rattle.theory.proofs.Buffer.{over-first, over-room}
 use Rattle.sheet.proofs.SizeLaws.{power-bound}
 
 blank-length : length blank ≡ 512

@@ -10,10 +10,10 @@ use Rattle.theory.specs.Game.{Game}
 use Rattle.theory.specs.Rounds.{masks, finalRanks}
 use Rattle.theory.specs.Delay.{Verdict, wins, losing, arena, flags, answer}
 use Rattle.sheet.specs.Reading.{delayOf, readAnswer}
-use Rattle.sheet.specs.Meant.{gameOf}
+use Rattle.sheet.specs.SheetGame.{gameOf}
 use Rattle.sheet.specs.declared.reading.Layout.{Layout}
 use Rattle.text.specs.Lines.{refusedLine, headLine, winningLine, losingLine, startLines, allowLines, rankLines}
-use Rattle.solver.specs.Solving.{Solved, solveAnswer, masksAfter, ranksLeft}
+use Rattle.solver.specs.Solving.{Solved, solveAnswer, masksLeft, ranksLeft}
 
 -- "a yard sheet of at most 16,384 bytes"
 abbrev pub mostInput : ℕ
@@ -55,7 +55,7 @@ textWith s masksRoom ranksRoom = cond (ltb mostInput (length s)) (refusedLine 1)
 
 -- the buffers after it: input that is too long is not solved
 unfoldable pub masksWith : List ℕ → ℕ → List ℕ → List ℕ
-masksWith s ranksRoom buffer = cond (ltb mostInput (length s)) buffer (masksAfter s (solveAnswer s (length buffer) ranksRoom) buffer)
+masksWith s ranksRoom buffer = cond (ltb mostInput (length s)) buffer (masksLeft s (solveAnswer s (length buffer) ranksRoom) buffer)
 
 unfoldable pub ranksWith : List ℕ → ℕ → List ℕ → List ℕ
 ranksWith s masksRoom buffer = cond (ltb mostInput (length s)) buffer (ranksLeft s (solveAnswer s masksRoom (length buffer)) buffer)

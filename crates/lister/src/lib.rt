@@ -21,9 +21,10 @@ ghost use lib.ListN.{length};
 ghost use Rattle.theory.specs.Answer.{accepted};
 ghost use Rattle.theory.specs.Strategy.{initialLength};
 ghost use Rattle.sheet.specs.Reading.{readAnswer};
-ghost use Rattle.text.specs.Page.{page, puts};
+ghost use Rattle.text.specs.Page.{Writes};
 ghost use Rattle.text.specs.Lines.{startLines};
-ghost use Rattle.solver.specs.Solving.{solveAnswer, masksAfter, ranksLeft, over};
+ghost use Rattle.solver.specs.Solving.{solving, masksSolved, ranksSolved};
+ghost use Rattle.theory.specs.Buffer.{over};
 ghost use Rattle.io.specs.Counts.{Counts};
 ghost use Rattle.lister.specs.Listing.{wonText, lostText, programText, solvedText, textWith, masksWith, ranksWith};
 ghost use Rattle.lister.specs.Parts.{flagsIn};
@@ -38,7 +39,7 @@ const MOST_TEXT: usize = 464000;
 
 // A line for each good first word, by the ranks at the asked delay.
 fn put_words(out: &mut [u8], at: usize, sheet: &[u8], l: Layout, ranks: &[u16]) -> usize
-    ensures { λ r. ⌜ page (now (out .exit)) r ≡ puts (page (now (out .entry)) at) (startLines (l .actions) (initialLength (l .delay)) (flagsIn (now (sheet .entry)) (now (ranks .entry)))) ⌝ }
+    ensures { λ r. ⌜ Writes (now (out .entry)) at (startLines (l .actions) (initialLength (l .delay)) (flagsIn (now (sheet .entry)) (now (ranks .entry)))) (now (out .exit)) r ⌝ }
 {
     let mut flags = [0u8; MOST_WORDS];
     let n = initial_flags(sheet, ranks, &mut flags);
@@ -52,7 +53,7 @@ fn put_words(out: &mut [u8], at: usize, sheet: &[u8], l: Layout, ranks: &[u16]) 
 }
 
 fn put_won(out: &mut [u8], sheet: &[u8], l: Layout, masks: &[u8], ranks: &[u16]) -> usize
-    ensures { λ r. ⌜ page (now (out .exit)) r ≡ puts (page (now (out .entry)) 0) (wonText (l .delay) (l .positions .size) (l .actions) (flagsIn (now (sheet .entry)) (now (ranks .entry))) (now (masks .entry))) ⌝ }
+    ensures { λ r. ⌜ Writes (now (out .entry)) 0 (wonText (l .delay) (l .positions .size) (l .actions) (flagsIn (now (sheet .entry)) (now (ranks .entry))) (now (masks .entry))) (now (out .exit)) r ⌝ }
 {
     let delay = wide(l.delay);
     let actions = wide(l.actions);
@@ -63,7 +64,7 @@ fn put_won(out: &mut [u8], sheet: &[u8], l: Layout, masks: &[u8], ranks: &[u16])
 }
 
 fn put_lost(out: &mut [u8], l: Layout, m: u8, ranks: &[u16]) -> usize
-    ensures { λ r. ⌜ page (now (out .exit)) r ≡ puts (page (now (out .entry)) 0) (lostText (l .delay) (l .positions .size) (l .actions) m (now (ranks .entry))) ⌝ }
+    ensures { λ r. ⌜ Writes (now (out .entry)) 0 (lostText (l .delay) (l .positions .size) (l .actions) m (now (ranks .entry))) (now (out .exit)) r ⌝ }
 {
     let actions = wide(l.actions);
     let delay = wide(m);
@@ -75,9 +76,9 @@ fn put_lost(out: &mut [u8], l: Layout, m: u8, ranks: &[u16]) -> usize
 // The text of a sheet with this reading.
 fn put_game(out: &mut [u8], sheet: &[u8], l: Layout, masks: &mut [u8], ranks: &mut [u16]) -> usize
     requires { ⌜ readAnswer (now sheet) ≡ accepted l ⌝ }
-    ensures text { λ r. ⌜ page (now (out .exit)) r ≡ puts (page (now (out .entry)) 0) (solvedText (now (sheet .entry)) (solveAnswer (now (sheet .entry)) (length (now (masks .entry))) (length (now (ranks .entry))))) ⌝ }
-    ensures masks { λ r. ⌜ now (masks .exit) ≡ masksAfter (now (sheet .entry)) (solveAnswer (now (sheet .entry)) (length (now (masks .entry))) (length (now (ranks .entry)))) (now (masks .entry)) ⌝ }
-    ensures ranks { λ r. ⌜ now (ranks .exit) ≡ ranksLeft (now (sheet .entry)) (solveAnswer (now (sheet .entry)) (length (now (masks .entry))) (length (now (ranks .entry)))) (now (ranks .entry)) ⌝ }
+    ensures text { λ r. ⌜ Writes (now (out .entry)) 0 (solvedText (now (sheet .entry)) (solving (now (sheet .entry)) (now (masks .entry)) (now (ranks .entry)))) (now (out .exit)) r ⌝ }
+    ensures masks { λ r. ⌜ now (masks .exit) ≡ masksSolved (now (sheet .entry)) (now (masks .entry)) (now (ranks .entry)) ⌝ }
+    ensures ranks { λ r. ⌜ now (ranks .exit) ≡ ranksSolved (now (sheet .entry)) (now (masks .entry)) (now (ranks .entry)) ⌝ }
 {
     let positions = l.positions.size as u16;
     let solution = solve(sheet, masks, ranks);
@@ -96,7 +97,7 @@ fn put_game(out: &mut [u8], sheet: &[u8], l: Layout, masks: &mut [u8], ranks: &m
 
 // What the program prints for a sheet, with lent buffers of any size: what `out` has no room for is left out.
 pub fn list(sheet: &[u8], masks: &mut [u8], ranks: &mut [u16], out: &mut [u8]) -> usize
-    ensures text { λ r. ⌜ page (now (out .exit)) r ≡ puts (page (now (out .entry)) 0) (textWith (now (sheet .entry)) (length (now (masks .entry))) (length (now (ranks .entry)))) ⌝ }
+    ensures text { λ r. ⌜ Writes (now (out .entry)) 0 (textWith (now (sheet .entry)) (length (now (masks .entry))) (length (now (ranks .entry)))) (now (out .exit)) r ⌝ }
     ensures counts { λ r. ⌜ Counts r (now (out .exit)) ⌝ }
     ensures masks { λ r. ⌜ now (masks .exit) ≡ masksWith (now (sheet .entry)) (length (now (ranks .entry))) (now (masks .entry)) ⌝ }
     ensures ranks { λ r. ⌜ now (ranks .exit) ≡ ranksWith (now (sheet .entry)) (length (now (masks .entry))) (now (ranks .entry)) ⌝ }

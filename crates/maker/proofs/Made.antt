@@ -15,21 +15,20 @@ use Rattle.theory.specs.Delay.{Verdict, wins, losing, winning, words, arena, an
 use Rattle.theory.proofs.Answer.{check-accepted, accepted-on, accepted-same}
 use Rattle.theory.proofs.Rounds.{final-length}
 use Rattle.theory.proofs.Tables.{legal-actions}
-use Rattle.sheet.specs.Form.{entrySize}
+use Rattle.sheet.specs.Form.{entrySize, part}
 use Rattle.sheet.specs.Reading.{readAnswer, delayOf}
-use Rattle.sheet.specs.Meant.{gameOf}
+use Rattle.sheet.specs.SheetGame.{gameOf}
 use Rattle.sheet.proofs.Accepted.{read-is, ranges, arena-nodes}
 use Rattle.sheet.proofs.Legality.{legal-game}
 use Rattle.sheet.specs.declared.reading.Layout.{Layout}
 use Rattle.text.specs.Numbers.{shortsText}
 use Rattle.text.proofs.Numbers.{length-shorts}
 use Rattle.solver.specs.Solving.{solveAnswer}
-use Rattle.maker.specs.Writing.{part}
 use Rattle.table.specs.TableSheet.{tableAnswer}
-use Rattle.maker.specs.Making.{headerOf, rankBytes, winningSheet, losingSheet, Made, won, madeOf, outputSize, makeAnswer}
-use Rattle.theory.proofs.Waiting.{wins-winning}
+use Rattle.maker.specs.Making.{headerOf, rankBytes, tableSheetOf, rankSheetOf, Made, won, madeOf, outputSize, makeAnswer}
+use Rattle.theory.proofs.Monotone.{wins-winning}
 use Rattle.maker.proofs.Sheets.{before, length-sheet}
-use Rattle.maker.proofs.Readable.{Ranged, tableFor, winning-length, made-readable}
+use Rattle.maker.proofs.Readable.{Ranged, tableFor, table-sheet-length, made-readable}
 
 -- an accepted game sheet's numbers
 pub sheet-ranged : (s : List ℕ) (l : Layout) → readAnswer s ≡ accepted l → Ranged (gameOf s) (delayOf s)
@@ -48,10 +47,10 @@ sheet-ranged s l e =
 pub record Won (s t : List ℕ) : Type 0 where
   pub ranged : Ranged (gameOf s) (delayOf s)
   pub wins : winning (gameOf s) (delayOf s) ≡ true
-  pub sheet : t ≡ winningSheet (gameOf s) (delayOf s)
+  pub sheet : t ≡ tableSheetOf (gameOf s) (delayOf s)
   pub reads : tableAnswer t ≡ accepted (tableFor (gameOf s) (delayOf s))
 
-made-won : (G : Game) (d : ℕ) (v : Verdict) (t : List ℕ) → madeOf G d v ≡ won t → (v ≡ wins) × (t ≡ winningSheet G d)
+made-won : (G : Game) (d : ℕ) (v : Verdict) (t : List ℕ) → madeOf G d v ≡ won t → (v ≡ wins) × (t ≡ tableSheetOf G d)
 unfolding madeOf
 made-won G d wins t e = (cc, cc)
 made-won G d (losing m) t e = let z : _≡_ {A = ℕ} 0 1 = cc in absurd (omega arith)
@@ -95,9 +94,9 @@ module _ (s : List ℕ) (masksRoom ranksRoom outputRoom : ℕ) where
 
 -- the made sheets fit
 
-pub losing-length : (G : Game) (m : ℕ) → length (losingSheet G m) ≡ 14 + 2 * arena G m .nodes
-unfolding losingSheet rankBytes entrySize before headerOf
-losing-length G m =
+pub rank-sheet-length : (G : Game) (m : ℕ) → length (rankSheetOf G m) ≡ 14 + 2 * arena G m .nodes
+unfolding rankSheetOf rankBytes entrySize before headerOf
+rank-sheet-length G m =
     length-sheet 2 (part 83 (headerOf G m) ∷ part 82 (shortsText (finalRanks (arena G m))) ∷ [])
     ∙ rw (length-shorts (finalRanks (arena G m)), final-length (arena G m)) (omega arith)
 
@@ -107,10 +106,10 @@ nodes-more G legal m d h =
     let half : m / 2 ≤ d / 2 = omega arith in
     mul-le-mul-left (G .positions) (pow-le-pow-right (legal-actions G legal) half)
 
-pub losing-fits : (G : Game) → Legal G → (m d : ℕ) → m ≤ d → length (losingSheet G m) ≤ outputSize G d
+pub ranks-fit : (G : Game) → Legal G → (m d : ℕ) → m ≤ d → length (rankSheetOf G m) ≤ outputSize G d
 unfolding outputSize
-losing-fits G legal m d h = rw (losing-length G m) (omega (arith, nodes-more G legal m d h))
+ranks-fit G legal m d h = rw (rank-sheet-length G m) (omega (arith, nodes-more G legal m d h))
 
-pub winning-fits : (G : Game) (d : ℕ) → Ranged G d → length (winningSheet G d) ≤ outputSize G d
+pub table-fits : (G : Game) (d : ℕ) → Ranged G d → length (tableSheetOf G d) ≤ outputSize G d
 unfolding outputSize
-winning-fits G d r = rw (winning-length G d r) (omega arith)
+table-fits G d r = rw (table-sheet-length G d r) (omega arith)

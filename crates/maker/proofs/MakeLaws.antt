@@ -22,8 +22,8 @@ use Rattle.theory.proofs.Answer.{refused-not-accepted, check-passed, accepted-s
 use Rattle.theory.proofs.Rounds.{final-length}
 use Rattle.sheet.specs.Refusals.{numberOf}
 use Rattle.sheet.specs.Checks.{nodesOf}
-use Rattle.sheet.specs.Reading.{readAnswer, delayOf, actionCount, meaning, refusalNumber}
-use Rattle.sheet.specs.Meant.{gameOf}
+use Rattle.sheet.specs.Reading.{readAnswer, delayOf, actionCount, readingMeans, refusalNumber}
+use Rattle.sheet.specs.SheetGame.{gameOf}
 use Rattle.sheet.proofs.Accepted.{read-is, ranges, carries, arena-nodes}
 use Rattle.sheet.specs.declared.refusal.Refusal.{Refusal}
 use Rattle.sheet.specs.declared.reading.Layout.{Layout}
@@ -31,15 +31,16 @@ use Rattle.sheet.specs.declared.reading.Reading.{Reading}
 use Rattle.sheet.specs.declared.reading.Reading.the-variants.{Accepted, Refused}
 use Rattle.text.specs.Page.{Page, page, puts}
 use Rattle.text.proofs.Page.{written}
-use Rattle.solver.specs.Solving.{solveAnswer, over, solvedDelay, masksAfter, ranksLeft}
+use Rattle.solver.specs.Solving.{solveAnswer, solvedDelay, masksLeft, ranksLeft}
+use Rattle.theory.specs.Buffer.{over}
 use Rattle.solver.specs.Solving as solving
 use Rattle.solver.specs.declared.solve.Solution.{Solution}
 use Rattle.solver.specs.declared.solve.Solution.the-variants as solution
 use Rattle.solver.specs.Flags.{flagWith, countIn, flagsCount, flagsAfter}
-use Rattle.maker.specs.Making.{headerOf, headerBytes, tableBytes, rankBytes, winningSheet, losingSheet, Made, won, lost, madeOf, outputSize, shortOf, makeAnswer, ifMade, outputAfter, Measured, measureOf, measured, Small, Begins, Ready, Solved}
+use Rattle.maker.specs.Making.{headerOf, headerBytes, tableBytes, rankBytes, tableSheetOf, rankSheetOf, Made, won, lost, madeOf, outputSize, shortOf, makeAnswer, ifMade, outputAfter, Measured, measureOf, measured, Small, Begins, Ready, Solved}
 use Rattle.sheet.proofs.SizeLaws.{power-bound, small-sizes}
 use Rattle.maker.proofs.Readable.{flags-length, masks-length}
-use Rattle.maker.proofs.Made.{sheet-ranged, winning-fits, losing-fits}
+use Rattle.maker.proofs.Made.{sheet-ranged, table-fits, ranks-fit}
 
 -- checks 8 and 9; n and w are the nodes and first words that the code has counted, x the refusal's number
 
@@ -192,8 +193,8 @@ module _ (s : List ℕ) (l : Layout) (M R : List ℕ) (ready : Solved s l M R) w
 
   pub table-written : (n w : ℕ) (F h : List ℕ) (p : Page) {q : Page} → n ≡ nodesOf (l .positions .size) (l .actions) (l .delay)
       → w ≡ flagsCount s (length zeros) → F ≡ flagsAfter s (take n R) zeros → h ≡ headerBytes l (l .delay)
-      → q ≡ puts p (tableBytes h (take w F) (take n M)) → q ≡ puts p (winningSheet (gameOf s) (delayOf s))
-  unfolding winningSheet
+      → q ≡ puts p (tableBytes h (take w F) (take n M)) → q ≡ puts p (tableSheetOf (gameOf s) (delayOf s))
+  unfolding tableSheetOf
   table-written n w F h p en ew ef eh e =
       let c = carries s l (ready .reads) in
       let hs : h ≡ headerOf (gameOf s) (delayOf s) = eh ∙ header-are s l (ready .reads) (l .delay) ∙ ap (headerOf (gameOf s)) (c .delay) in
@@ -249,17 +250,17 @@ module _ (s : List ℕ) (l : Layout) (M R O : List ℕ) (ready : Ready s l (leng
   unfolding makeAnswer onAccepted
   make-is = rw solve-is (check-passed _ _ _ (le-leb _ _ (ready .output-room)))
 
-  module _ (y : Solution) (ey : solving.meaning y ≡ solveAnswer s (length M) (length R)) (M′ R′ : List ℕ)
-      (em : M′ ≡ masksAfter s (solveAnswer s (length M) (length R)) M) (er : R′ ≡ ranksLeft s (solveAnswer s (length M) (length R)) R) where
+  module _ (y : Solution) (ey : solving.solutionMeans y ≡ solveAnswer s (length M) (length R)) (M′ R′ : List ℕ)
+      (em : M′ ≡ masksLeft s (solveAnswer s (length M) (length R)) M) (er : R′ ≡ ranksLeft s (solveAnswer s (length M) (length R)) R) where
     -- the contract, for what the code answers
     abbrev pub Promised : Verdict → List ℕ → ℕ → Type 0
     Promised v O′ n =
         (accepted (record { verdict = v; size = n }) ≡ measured (makeAnswer s (length M) (length R) (length O)))
-        × ((M′ ≡ masksAfter s (solveAnswer s (length M) (length R)) M)
+        × ((M′ ≡ masksLeft s (solveAnswer s (length M) (length R)) M)
         × ((R′ ≡ ranksLeft s (solveAnswer s (length M) (length R)) R) × (O′ ≡ outputAfter (makeAnswer s (length M) (length R) (length O)) O)))
 
     masks-over : M′ ≡ over (masks (arena G (solvedDelay d (answer G d)))) M
-    unfolding masksAfter
+    unfolding masksLeft
     masks-over = rw solve-is at em
 
     ranks-over : R′ ≡ over (finalRanks (arena G (solvedDelay d (answer G d)))) R
@@ -269,7 +270,7 @@ module _ (s : List ℕ) (l : Layout) (M R O : List ℕ) (ready : Ready s l (leng
     -- winning; n is what the writer returned, O′ the output after it
     module _ (x : Layout) (ex : y ≡ solution.Winning x) where
       verdict-wins : answer G d ≡ wins
-      verdict-wins = ap (λ a. a .verdict) (accepted-same (sym solve-is ∙ sym ey ∙ ap solving.meaning ex))
+      verdict-wins = ap (λ a. a .verdict) (accepted-same (sym solve-is ∙ sym ey ∙ ap solving.solutionMeans ex))
 
       pub solved-winning : Solved s l M′ R′
       unfolding solvedDelay
@@ -280,21 +281,21 @@ module _ (s : List ℕ) (l : Layout) (M R O : List ℕ) (ready : Ready s l (leng
             ranks = rw (ranks-over, verdict-wins) (over-begins (finalRanks (arena G d)) R);
           }
 
-      won-is : makeAnswer s (length M) (length R) (length O) ≡ accepted (won (winningSheet G d))
+      won-is : makeAnswer s (length M) (length R) (length O) ≡ accepted (won (tableSheetOf G d))
       unfolding madeOf
       won-is = rw verdict-wins at make-is
 
-      won-fits : length (winningSheet G d) ≤ length O
-      won-fits = omega (arith, winning-fits G d (sheet-ranged s l (ready .reads)), ready .output-room)
+      won-fits : length (tableSheetOf G d) ≤ length O
+      won-fits = omega (arith, table-fits G d (sheet-ranged s l (ready .reads)), ready .output-room)
 
-      module _ (O′ : List ℕ) (n : ℕ) (eo : page O′ n ≡ puts (page O 0) (winningSheet G d)) where
+      module _ (O′ : List ℕ) (n : ℕ) (eo : page O′ n ≡ puts (page O 0) (tableSheetOf G d)) where
         won-answer : accepted (record { verdict = wins; size = n }) ≡ measured (makeAnswer s (length M) (length R) (length O))
         unfolding measured measureOf onAccepted
-        won-answer = rw won-is (ap (λ k. accepted (record { verdict = wins; size = k })) (text-length (winningSheet G d) O O′ n won-fits eo))
+        won-answer = rw won-is (ap (λ k. accepted (record { verdict = wins; size = k })) (text-length (tableSheetOf G d) O O′ n won-fits eo))
 
         won-output : O′ ≡ outputAfter (makeAnswer s (length M) (length R) (length O)) O
         unfolding outputAfter
-        won-output = rw won-is (text-over (winningSheet G d) O O′ n won-fits eo)
+        won-output = rw won-is (text-over (tableSheetOf G d) O O′ n won-fits eo)
 
         pub makes-won : Promised wins O′ n
         makes-won = (won-answer, (em, (er, won-output)))
@@ -302,7 +303,7 @@ module _ (s : List ℕ) (l : Layout) (M R O : List ℕ) (ready : Ready s l (leng
     -- losing m
     module _ (m : ℕ) (x : Layout) (ex : y ≡ solution.Losing m x) where
       verdict-loses : answer G d ≡ losing m
-      verdict-loses = ap (λ a. a .verdict) (accepted-same (sym solve-is ∙ sym ey ∙ ap solving.meaning ex))
+      verdict-loses = ap (λ a. a .verdict) (accepted-same (sym solve-is ∙ sym ey ∙ ap solving.solutionMeans ex))
 
       early : m ≤ d
       early = losing-early G d m verdict-loses
@@ -323,29 +324,29 @@ module _ (s : List ℕ) (l : Layout) (M R O : List ℕ) (ready : Ready s l (leng
       pub losing-inside : nodesOf (l .positions .size) (l .actions) m ≤ length R′
       losing-inside = rw front (begins-room (finalRanks (arena G m)) R′ begins)
 
-      losing-text : rankBytes (headerBytes l m) (take (nodesOf (l .positions .size) (l .actions) m) R′) ≡ losingSheet G m
-      unfolding losingSheet
+      losing-text : rankBytes (headerBytes l m) (take (nodesOf (l .positions .size) (l .actions) m) R′) ≡ rankSheetOf G m
+      unfolding rankSheetOf
       losing-text = ap (λ h. rankBytes h (take (nodesOf (l .positions .size) (l .actions) m) R′)) (header-are s l (ready .reads) m) ∙ ap (rankBytes (headerOf G m)) (rw front begins)
 
-      lost-is : makeAnswer s (length M) (length R) (length O) ≡ accepted (lost m (losingSheet G m))
+      lost-is : makeAnswer s (length M) (length R) (length O) ≡ accepted (lost m (rankSheetOf G m))
       unfolding madeOf
       lost-is = rw verdict-loses at make-is
 
-      lost-fits : length (losingSheet G m) ≤ length O
-      lost-fits = omega (arith, losing-fits G (sheet-ranged s l (ready .reads) .legal) m d early, ready .output-room)
+      lost-fits : length (rankSheetOf G m) ≤ length O
+      lost-fits = omega (arith, ranks-fit G (sheet-ranged s l (ready .reads) .legal) m d early, ready .output-room)
 
       module _ (O′ : List ℕ) (n : ℕ)
           (eo : page O′ n ≡ puts (page O 0) (rankBytes (headerBytes l m) (take (nodesOf (l .positions .size) (l .actions) m) R′))) where
-        text : page O′ n ≡ puts (page O 0) (losingSheet G m)
+        text : page O′ n ≡ puts (page O 0) (rankSheetOf G m)
         text = eo ∙ ap (puts (page O 0)) losing-text
 
         lost-answer : accepted (record { verdict = losing m; size = n }) ≡ measured (makeAnswer s (length M) (length R) (length O))
         unfolding measured measureOf onAccepted
-        lost-answer = rw lost-is (ap (λ k. accepted (record { verdict = losing m; size = k })) (text-length (losingSheet G m) O O′ n lost-fits text))
+        lost-answer = rw lost-is (ap (λ k. accepted (record { verdict = losing m; size = k })) (text-length (rankSheetOf G m) O O′ n lost-fits text))
 
         lost-output : O′ ≡ outputAfter (makeAnswer s (length M) (length R) (length O)) O
         unfolding outputAfter
-        lost-output = rw lost-is (text-over (losingSheet G m) O O′ n lost-fits text)
+        lost-output = rw lost-is (text-over (rankSheetOf G m) O O′ n lost-fits text)
 
         pub makes-lost : Promised (losing m) O′ n
         makes-lost = (lost-answer, (em, (er, lost-output)))
@@ -353,7 +354,7 @@ module _ (s : List ℕ) (l : Layout) (M R O : List ℕ) (ready : Ready s l (leng
     -- solving does not refuse what was read and has room
     pub no-refusal : {A : Type 0} (n : ℕ) → y ≡ solution.Refused n → A
     no-refusal n ex =
-        absurd (refused-not-accepted (sym (ap solving.meaning ex) ∙ ey ∙ solve-is))
+        absurd (refused-not-accepted (sym (ap solving.solutionMeans ex) ∙ ey ∙ solve-is))
 
 pub ruleset make-reads = (needs, ready-small, solved-winning, losing-short, losing-inside)
 
@@ -415,16 +416,16 @@ module _ (s : List ℕ) (l : Layout) (M R O : ℕ) (e : readAnswer s ≡ accepte
       (λ (t : enough ≡ false). absurd (omega (arith, rw t at z)))
       (bool enough)
 
-module _ (s : List ℕ) (y : Reading) (ey : meaning y ≡ readAnswer s) (M R O : ℕ) where
+module _ (s : List ℕ) (y : Reading) (ey : readingMeans y ≡ readAnswer s) (M R O : ℕ) where
   pub reading-refused : (x : Refusal) → y ≡ Refused x → makeAnswer s M R O ≡ refused (refusalNumber y)
   unfolding makeAnswer solveAnswer onAccepted
   reading-refused x e =
-      let f : readAnswer s ≡ refused (numberOf x) = sym ey ∙ ap meaning e in
+      let f : readAnswer s ≡ refused (numberOf x) = sym ey ∙ ap readingMeans e in
       rw (f, e)
 
   module _ (l : Layout) (el : y ≡ Accepted l) where
     read-accepted : readAnswer s ≡ accepted l
-    read-accepted = sym ey ∙ ap meaning el
+    read-accepted = sym ey ∙ ap readingMeans el
 
     pub read-small : Small l
     read-small = small s l read-accepted

@@ -16,13 +16,12 @@ use Rattle.theory.specs.Table.{ours, flagged}
 use Rattle.theory.proofs.Fold.{both-true, all-below, any-holds, any-some}
 use Rattle.theory.proofs.Answer.{check-passed}
 use Rattle.theory.proofs.Tables.{legal-actions}
-use Rattle.theory.proofs.Ours.{good-flagged, ours-fits}
+use Rattle.theory.proofs.OurTable.{good-flagged, ours-fits}
 use Rattle.sheet.specs.Limits.{mostPositions, mostActions, mostDelay, mostNodes}
-use Rattle.sheet.specs.Form.{entrySize, contentsOk, bodyOf}
+use Rattle.sheet.specs.Form.{entrySize, contentsOk, bodyOf, Part, part}
 use Rattle.sheet.specs.Checks.{nodesOf}
-use Rattle.maker.specs.Writing.{Part, part}
 use Rattle.table.specs.TableSheet.{TableSheet, tableLetters, tableLayout, decode, tableNodes, numbersOk, belowAt, bytesBelow, bodiesOk, shapeAnswer, someFlagged, tableAnswer}
-use Rattle.maker.specs.Making.{headerOf, tableBytes, winningSheet}
+use Rattle.maker.specs.Making.{headerOf, tableBytes, tableSheetOf}
 use Rattle.sheet.proofs.SizeLaws.{power-bound}
 use Rattle.maker.proofs.Sheets.{before, length-sheet, body-is, contents-ok}
 
@@ -38,8 +37,8 @@ pub record Ranged (G : Game) (d : ℕ) : Type 0 where
 abbrev pub tableFor : Game → ℕ → TableSheet
 tableFor G d = record { start = G .start; actions = G .actions; delay = d; highest = G .positions - 1; table = ours G d }
 
-abbrev winningParts : Game → ℕ → List Part
-winningParts G d = part 83 (headerOf G d) ∷ part 87 (flags G d) ∷ part 84 (masks (arena G d)) ∷ []
+abbrev tableParts : Game → ℕ → List Part
+tableParts G d = part 83 (headerOf G d) ∷ part 87 (flags G d) ∷ part 84 (masks (arena G d)) ∷ []
 
 pub flags-length : (G : Game) (d : ℕ) → length (flags G d) ≡ initialWords G d
 unfolding ours
@@ -55,34 +54,34 @@ module _ (G : Game) (d : ℕ) (ranged : Ranged G d) where
   few-words = power-bound (G .actions) (initialLength d) (ranged .few-actions) (omega (arith, ranged .short-delay))
 
   -- the sheet has 15 bytes of contents and 4 of S
-  parts-size : entrySize 2 * 3 + before (winningParts G d) 3 ≡ 19 + initialWords G d + arena G d .nodes
+  parts-size : entrySize 2 * 3 + before (tableParts G d) 3 ≡ 19 + initialWords G d + arena G d .nodes
   unfolding entrySize before headerOf
   parts-size = rw (flags-length G d, masks-length G d) (omega arith)
 
-  pub winning-length : length (winningSheet G d) ≡ 19 + initialWords G d + arena G d .nodes
-  unfolding winningSheet tableBytes
-  winning-length = length-sheet 2 (winningParts G d) ∙ parts-size
+  pub table-sheet-length : length (tableSheetOf G d) ≡ 19 + initialWords G d + arena G d .nodes
+  unfolding tableSheetOf tableBytes
+  table-sheet-length = length-sheet 2 (tableParts G d) ∙ parts-size
 
-  parts-fit : entrySize 2 * 3 + before (winningParts G d) 3 < 256 ^ 2
+  parts-fit : entrySize 2 * 3 + before (tableParts G d) 3 < 256 ^ 2
   parts-fit = rw parts-size (omega (arith, few-words, ranged .few-nodes))
 
-  contents : contentsOk 2 tableLetters (winningSheet G d) ≡ true
-  unfolding winningSheet tableBytes
-  contents = contents-ok 2 (winningParts G d) parts-fit
+  contents : contentsOk 2 tableLetters (tableSheetOf G d) ≡ true
+  unfolding tableSheetOf tableBytes
+  contents = contents-ok 2 (tableParts G d) parts-fit
 
-  header-body : bodyOf 2 (winningSheet G d) 0 ≡ headerOf G d
-  unfolding winningSheet tableBytes
-  header-body = body-is 2 (winningParts G d) parts-fit 0 (omega arith)
+  header-body : bodyOf 2 (tableSheetOf G d) 0 ≡ headerOf G d
+  unfolding tableSheetOf tableBytes
+  header-body = body-is 2 (tableParts G d) parts-fit 0 (omega arith)
 
-  flags-body : bodyOf 2 (winningSheet G d) 1 ≡ flags G d
-  unfolding winningSheet tableBytes
-  flags-body = body-is 2 (winningParts G d) parts-fit 1 (omega arith)
+  flags-body : bodyOf 2 (tableSheetOf G d) 1 ≡ flags G d
+  unfolding tableSheetOf tableBytes
+  flags-body = body-is 2 (tableParts G d) parts-fit 1 (omega arith)
 
-  masks-body : bodyOf 2 (winningSheet G d) 2 ≡ masks (arena G d)
-  unfolding winningSheet tableBytes
-  masks-body = body-is 2 (winningParts G d) parts-fit 2 (omega arith)
+  masks-body : bodyOf 2 (tableSheetOf G d) 2 ≡ masks (arena G d)
+  unfolding tableSheetOf tableBytes
+  masks-body = body-is 2 (tableParts G d) parts-fit 2 (omega arith)
 
-  pub made-says : decode (winningSheet G d) ≡ tableFor G d
+  pub made-says : decode (tableSheetOf G d) ≡ tableFor G d
   unfolding decode tableLayout headerOf ours bodyOf
   made-says = rw (header-body, flags-body, masks-body)
 
@@ -116,11 +115,11 @@ module _ (G : Game) (d : ℕ) (ranged : Ranged G d) where
       both-true _ _ (eq-eqb _ _ (flags-length G d))
       (both-true _ _ (eq-eqb _ _ (masks-length G d ∙ sym nodes-are)) (both-true _ _ flags-below masks-below))
 
-  header-size : length (bodyOf 2 (winningSheet G d) 0) ≡ 4
+  header-size : length (bodyOf 2 (tableSheetOf G d) 0) ≡ 4
   unfolding headerOf
   header-size = ap length header-body
 
-  pub made-shape : shapeAnswer (winningSheet G d) ≡ accepted (tableFor G d)
+  pub made-shape : shapeAnswer (tableSheetOf G d) ≡ accepted (tableFor G d)
   unfolding shapeAnswer
   made-shape =
       rw (header-size, made-says)
@@ -133,6 +132,6 @@ module _ (G : Game) (d : ℕ) (ranged : Ranged G d) where
       any-holds (flagged (ours G d)) (g .0) (length (ours G d .flags)) (rw (ours-fits G d .flags-length) (g .1))
       (good-flagged G d (g .0) (g .1) (g .2))
 
-  pub made-readable : winning G d ≡ true → tableAnswer (winningSheet G d) ≡ accepted (tableFor G d)
+  pub made-readable : winning G d ≡ true → tableAnswer (tableSheetOf G d) ≡ accepted (tableFor G d)
   unfolding tableAnswer onAccepted check
   made-readable e = simp (made-says, made-shape, some-good e)

@@ -10,10 +10,9 @@ use lib.ListN.{length, getD, take, drop, length-append, length-map, List·getD-m
 use lib.Seq.{getD-at, drop-at, take-append-seam}
 use borrow.Author.Tests.{eq-eqb, le-leb}
 use Rattle.theory.proofs.Fold.{both-true, all-below}
-use Rattle.sheet.specs.Form.{numberAt, entrySize, letterOf, offsetOf, lengthOf, placeOf, entryOk, contentsOk, placedAt, partAt, bodyOf}
-use Rattle.text.specs.Numbers.{bytesOf}
+use Rattle.sheet.specs.Form.{entrySize, letterOf, offsetOf, lengthOf, placeOf, entryOk, contentsOk, placedAt, partAt, bodyOf, Part, part, entryOf, entriesFrom, bodies, sheetOf}
+use Rattle.theory.specs.Bytes.{numberAt, bytesOf}
 use Rattle.text.proofs.Numbers.{length-bytes}
-use Rattle.maker.specs.Writing.{Part, part, entryOf, entriesFrom, bodies, sheetOf}
 
 -- a list has the middle at place n
 

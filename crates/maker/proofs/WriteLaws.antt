@@ -5,12 +5,12 @@ use mathlib.Core.List.{List, [], _∷_, _++_, append-assoc, append-nil}
 use native.Mathlib.Omega.{arith}
 use lib.ListN.{length}
 use borrow.Author.Needs.{needs}
-use Rattle.sheet.specs.Form.{entrySize}
+use Rattle.sheet.specs.Form.{entrySize, entryOf, entriesFrom, bodies, sheetOf}
 use Rattle.text.specs.Page.{Page, puts}
-use Rattle.text.specs.Numbers.{bytesOf, shortsText}
+use Rattle.text.specs.Numbers.{shortsText}
+use Rattle.theory.specs.Bytes.{bytesOf}
 use Rattle.text.proofs.Page.{after}
 use Rattle.text.proofs.Numbers.{length-shorts}
-use Rattle.maker.specs.Writing.{entryOf, entriesFrom, bodies, sheetOf}
 use Rattle.maker.specs.Making.{tableBytes, rankBytes}
 
 abbrev entry : ℕ → ℕ → ℕ → List ℕ

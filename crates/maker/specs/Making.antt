@@ -13,11 +13,12 @@ use Rattle.theory.specs.Rounds.{masks, finalRanks}
 use Rattle.theory.specs.Delay.{Verdict, wins, losing, initialWords, arena, flags}
 use Rattle.sheet.specs.Limits.{width, mostPositions, mostActions, mostDelay}
 use Rattle.sheet.specs.Reading.{readAnswer, delayOf}
-use Rattle.sheet.specs.Meant.{gameOf}
+use Rattle.sheet.specs.SheetGame.{gameOf}
 use Rattle.sheet.specs.declared.reading.Layout.{Layout}
 use Rattle.text.specs.Numbers.{shortsText}
-use Rattle.solver.specs.Solving.{solveAnswer, over}
-use Rattle.maker.specs.Writing.{part, sheetOf}
+use Rattle.solver.specs.Solving.{solveAnswer, masksSolved, ranksSolved}
+use Rattle.theory.specs.Buffer.{over}
+use Rattle.sheet.specs.Form.{part, sheetOf}
 use Rattle.maker.specs.declared.making.Making.{Making}
 use Rattle.maker.specs.declared.making.Making.the-variants.{Winning, Losing, Refused}
 
@@ -38,12 +39,12 @@ unfoldable pub rankBytes : List ℕ → List ℕ → List ℕ
 rankBytes h ranks = sheetOf width (part 83 h ∷ part 82 (shortsText ranks) ∷ [])
 
 -- the winning sheet: W has "a byte for each first word", T "the masks by pair number"
-unfoldable pub winningSheet : Game → ℕ → List ℕ
-winningSheet G d = tableBytes (headerOf G d) (flags G d) (masks (arena G d))
+unfoldable pub tableSheetOf : Game → ℕ → List ℕ
+tableSheetOf G d = tableBytes (headerOf G d) (flags G d) (masks (arena G d))
 
 -- the losing sheet, "with m as its lag"
-unfoldable pub losingSheet : Game → ℕ → List ℕ
-losingSheet G m = rankBytes (headerOf G m) (finalRanks (arena G m))
+unfoldable pub rankSheetOf : Game → ℕ → List ℕ
+rankSheetOf G m = rankBytes (headerOf G m) (finalRanks (arena G m))
 
 -- the sheet made, with m where the game is losing
 pub data Made : Type 0 where
@@ -51,8 +52,8 @@ pub data Made : Type 0 where
   lost : ℕ → List ℕ → Made
 
 unfoldable pub madeOf : Game → ℕ → Verdict → Made
-madeOf G d wins = won (winningSheet G d)
-madeOf G d (losing m) = lost m (losingSheet G m)
+madeOf G d wins = won (tableSheetOf G d)
+madeOf G d (losing m) = lost m (rankSheetOf G m)
 
 -- "19 + number of first words + 2 × pairs, all at the asked lag"
 unfoldable pub outputSize : Game → ℕ → ℕ
@@ -82,6 +83,19 @@ outputAfter (refused n) buffer = buffer
 outputAfter (accepted (won t)) buffer = over t buffer
 outputAfter (accepted (lost m t)) buffer = over t buffer
 
+-- the answer, and what each buffer holds after it, from the buffers as they were lent
+abbrev pub making : List ℕ → List ℕ → List ℕ → List ℕ → Answer Made
+making s masks ranks out = makeAnswer s (length masks) (length ranks) (length out)
+
+abbrev pub masksMade : List ℕ → List ℕ → List ℕ → List ℕ → List ℕ
+masksMade s masks ranks out = ifMade (making s masks ranks out) masks (masksSolved s masks ranks)
+
+abbrev pub ranksMade : List ℕ → List ℕ → List ℕ → List ℕ → List ℕ
+ranksMade s masks ranks out = ifMade (making s masks ranks out) ranks (ranksSolved s masks ranks)
+
+abbrev pub outputMade : List ℕ → List ℕ → List ℕ → List ℕ → List ℕ
+outputMade s masks ranks out = outputAfter (making s masks ranks out) out
+
 -- the verdict, and the made sheet's length
 pub record Measured : Type 0 where
   pub verdict : Verdict
@@ -95,10 +109,10 @@ unfoldable pub measured : Answer Made → Answer Measured
 measured a = onAccepted a (λ x. accepted (measureOf x))
 
 -- document 01's number and values for every case of the code's answer
-abbrev pub meaning : Making → Answer Measured
-meaning (Winning n) = accepted (record { verdict = wins; size = n })
-meaning (Losing m n) = accepted (record { verdict = losing m; size = n })
-meaning (Refused n) = refused n
+abbrev pub makingMeans : Making → Answer Measured
+makingMeans (Winning n) = accepted (record { verdict = wins; size = n })
+makingMeans (Losing m n) = accepted (record { verdict = losing m; size = n })
+makingMeans (Refused n) = refused n
 
 -- what checks 2 and 3 leave of a layout's numbers
 pub record Small (l : Layout) : Type 0 where

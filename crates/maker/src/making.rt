@@ -19,10 +19,10 @@ ghost use Rattle.theory.specs.Strategy.{initialLength};
 ghost use Rattle.sheet.specs.Limits.{mostDelay};
 ghost use Rattle.sheet.specs.Checks.{nodesOf};
 ghost use Rattle.sheet.specs.Reading.{delayOf};
-ghost use Rattle.sheet.specs.Meant.{gameOf};
-ghost use Rattle.text.specs.Page.{page, puts};
-ghost use Rattle.solver.specs.Solving.{solveAnswer, masksAfter, ranksLeft};
-ghost use Rattle.maker.specs.Making.{headerBytes, rankBytes, winningSheet, shortOf, makeAnswer, ifMade, outputAfter, measured, meaning, Small, Ready, Solved};
+ghost use Rattle.sheet.specs.SheetGame.{gameOf};
+ghost use Rattle.text.specs.Page.{Writes};
+ghost use Rattle.solver.specs.Solving.{masksSolved, ranksSolved};
+ghost use Rattle.maker.specs.Making.{headerBytes, rankBytes, tableSheetOf, shortOf, measured, makingMeans, Small, Ready, Solved, making, masksMade, ranksMade, outputMade};
 
 // The contents and the S body of a table sheet.
 const TABLE_START: usize = 19;
@@ -69,7 +69,7 @@ fn header(l: Layout, m: u8) -> [u8; 4]
 // The rank sheet at delay m.
 fn write_ranks(l: Layout, m: u8, ranks: &[u16], out: &mut [u8]) -> usize
     requires { ⌜ (Small l) × (m ≤ mostDelay) × (nodesOf (l .positions .size) (l .actions) m ≤ length (now ranks)) ⌝ }
-    ensures { λ r. ⌜ page (now (out .exit)) r ≡ puts (page (now (out .entry)) 0) (rankBytes (headerBytes l m) (take (nodesOf (l .positions .size) (l .actions) m) (now (ranks .entry)))) ⌝ }
+    ensures { λ r. ⌜ Writes (now (out .entry)) 0 (rankBytes (headerBytes l m) (take (nodesOf (l .positions .size) (l .actions) m) (now (ranks .entry)))) (now (out .exit)) r ⌝ }
 {
     let positions = l.positions;
     let nodes = nodes_at(positions.size as u16, l.actions, m);
@@ -80,7 +80,7 @@ fn write_ranks(l: Layout, m: u8, ranks: &[u16], out: &mut [u8]) -> usize
 // The table sheet at the asked delay.
 fn write_table(sheet: &[u8], l: Layout, masks: &[u8], ranks: &[u16], out: &mut [u8]) -> usize
     requires { ⌜ Solved (now sheet) l (now masks) (now ranks) ⌝ }
-    ensures { λ r. ⌜ page (now (out .exit)) r ≡ puts (page (now (out .entry)) 0) (winningSheet (gameOf (now (sheet .entry))) (delayOf (now (sheet .entry)))) ⌝ }
+    ensures { λ r. ⌜ Writes (now (out .entry)) 0 (tableSheetOf (gameOf (now (sheet .entry))) (delayOf (now (sheet .entry)))) (now (out .exit)) r ⌝ }
 {
     let positions = l.positions;
     let nodes = nodes_at(positions.size as u16, l.actions, l.delay);
@@ -93,10 +93,10 @@ fn write_table(sheet: &[u8], l: Layout, masks: &[u8], ranks: &[u16], out: &mut [
 // Solving and writing, once every check has passed.
 fn make_read(sheet: &[u8], l: Layout, masks: &mut [u8], ranks: &mut [u16], out: &mut [u8]) -> Making
     requires { ⌜ Ready (now sheet) l (length (now masks)) (length (now ranks)) (length (now out)) ⌝ }
-    ensures answer { λ r. ⌜ meaning r ≡ measured (makeAnswer (now (sheet .entry)) (length (now (masks .entry))) (length (now (ranks .entry))) (length (now (out .entry)))) ⌝ }
-    ensures masks { λ r. ⌜ now (masks .exit) ≡ masksAfter (now (sheet .entry)) (solveAnswer (now (sheet .entry)) (length (now (masks .entry))) (length (now (ranks .entry)))) (now (masks .entry)) ⌝ }
-    ensures ranks { λ r. ⌜ now (ranks .exit) ≡ ranksLeft (now (sheet .entry)) (solveAnswer (now (sheet .entry)) (length (now (masks .entry))) (length (now (ranks .entry)))) (now (ranks .entry)) ⌝ }
-    ensures output { λ r. ⌜ now (out .exit) ≡ outputAfter (makeAnswer (now (sheet .entry)) (length (now (masks .entry))) (length (now (ranks .entry))) (length (now (out .entry)))) (now (out .entry)) ⌝ }
+    ensures answer { λ r. ⌜ makingMeans r ≡ measured (making (now (sheet .entry)) (now (masks .entry)) (now (ranks .entry)) (now (out .entry))) ⌝ }
+    ensures masks { λ r. ⌜ now (masks .exit) ≡ masksSolved (now (sheet .entry)) (now (masks .entry)) (now (ranks .entry)) ⌝ }
+    ensures ranks { λ r. ⌜ now (ranks .exit) ≡ ranksSolved (now (sheet .entry)) (now (masks .entry)) (now (ranks .entry)) ⌝ }
+    ensures output { λ r. ⌜ now (out .exit) ≡ outputMade (now (sheet .entry)) (now (masks .entry)) (now (ranks .entry)) (now (out .entry)) ⌝ }
 {
     let solution = solve(sheet, masks, ranks);
     match solution {
@@ -107,10 +107,10 @@ fn make_read(sheet: &[u8], l: Layout, masks: &mut [u8], ranks: &mut [u16], out: 
 }
 
 pub fn make(sheet: &[u8], masks: &mut [u8], ranks: &mut [u16], out: &mut [u8]) -> Making
-    ensures answer { λ r. ⌜ meaning r ≡ measured (makeAnswer (now (sheet .entry)) (length (now (masks .entry))) (length (now (ranks .entry))) (length (now (out .entry)))) ⌝ }
-    ensures masks { λ r. ⌜ now (masks .exit) ≡ ifMade (makeAnswer (now (sheet .entry)) (length (now (masks .entry))) (length (now (ranks .entry))) (length (now (out .entry)))) (now (masks .entry)) (masksAfter (now (sheet .entry)) (solveAnswer (now (sheet .entry)) (length (now (masks .entry))) (length (now (ranks .entry)))) (now (masks .entry))) ⌝ }
-    ensures ranks { λ r. ⌜ now (ranks .exit) ≡ ifMade (makeAnswer (now (sheet .entry)) (length (now (masks .entry))) (length (now (ranks .entry))) (length (now (out .entry)))) (now (ranks .entry)) (ranksLeft (now (sheet .entry)) (solveAnswer (now (sheet .entry)) (length (now (masks .entry))) (length (now (ranks .entry)))) (now (ranks .entry))) ⌝ }
-    ensures output { λ r. ⌜ now (out .exit) ≡ outputAfter (makeAnswer (now (sheet .entry)) (length (now (masks .entry))) (length (now (ranks .entry))) (length (now (out .entry)))) (now (out .entry)) ⌝ }
+    ensures answer { λ r. ⌜ makingMeans r ≡ measured (making (now (sheet .entry)) (now (masks .entry)) (now (ranks .entry)) (now (out .entry))) ⌝ }
+    ensures masks { λ r. ⌜ now (masks .exit) ≡ masksMade (now (sheet .entry)) (now (masks .entry)) (now (ranks .entry)) (now (out .entry)) ⌝ }
+    ensures ranks { λ r. ⌜ now (ranks .exit) ≡ ranksMade (now (sheet .entry)) (now (masks .entry)) (now (ranks .entry)) (now (out .entry)) ⌝ }
+    ensures output { λ r. ⌜ now (out .exit) ≡ outputMade (now (sheet .entry)) (now (masks .entry)) (now (ranks .entry)) (now (out .entry)) ⌝ }
 {
     let reading = read(sheet);
     let Reading::Accepted(l) = reading else {

@@ -1,4 +1,4 @@
--- What all rounds leave, by the test that level and buffer fit (specs/Strikes.antt). Assumes nothing.
+-- What all rounds leave, by the test that level and buffer fit (specs/Falling.antt). Assumes nothing.
 use Prim.Native.Nat.{ℕ}
 use mathlib.Core.Path.{_≡_, refl}
 use mathlib.Core.Bool.{Bool, true, false, not}
@@ -10,7 +10,7 @@ use Rattle.theory.proofs.Fold.{both-true, both-none, both-false, failed, passed
 use Rattle.walk.specs.declared.level.Level.{Level}
 use Rattle.walk.specs.Nodes.{Sized, isSized}
 use Rattle.walk.proofs.NodeLaws.{sized-tested, tested-sized}
-use Rattle.rounds.specs.Strikes.{AtMost, lastRound, isFitted, Ranked}
+use Rattle.rounds.specs.Falling.{AtMost, lastRound, isFitted, Ranked}
 use Rattle.rounds.proofs.RoundLaws.{last-most}
 
 module _ (positions : ℕ) (l : Level) where

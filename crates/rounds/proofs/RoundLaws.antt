@@ -1,4 +1,4 @@
--- One round in place, and all rounds (specs/Strikes.antt). A node struck in a round counts as fallen only in the next, since its
+-- One round in place, and all rounds (specs/Falling.antt). A node struck in a round counts as fallen only in the next, since its
 -- rank is over n; so the half-updated list and the list at the round's start say the same. Assumes nothing.
 use Prim.Native.Nat.{ℕ, zero, suc, _+_, _*_, _/_, _≤_, _<_}
 use mathlib.Core.Path.{_≡_, refl, sym, _∙_, ap, fun-ext}
@@ -16,13 +16,13 @@ use Rattle.theory.specs.Fold.{both, allBelow, anyBelow, tabulate}
 use Rattle.theory.specs.Rounds.{Arena, spoiltBy, fell, falls, rankIn, ranksAfter, finalRanks}
 use Rattle.theory.specs.Delay.{onRight}
 use Rattle.theory.proofs.Fold.{bool, below?, both-true, both-left, both-right, both-false, any-none, any-suc, either-right, tabulate-same, length-tabulate, getD-tabulate, any-below-none, any-some, not-both, count, count-le, count-less, both-none, both-second, either-first, not-not}
-use Rattle.theory.proofs.Rounds.{rank-zero, rank-le, length-after, stays-fallen, fell-true, fell-false, stood-rank, in-fallen, in-struck, in-stands, after-suc, final-is}
+use Rattle.theory.proofs.Rounds.{rank-zero, rank-le, length-after, stays-fallen, fell-true, fell-false, stood-rank, in-fallen, in-fell, in-stands, after-suc, final-is}
 use Rattle.sheet.specs.Kinds.{controllerAt, safeAt}
 use Rattle.walk.specs.declared.level.Level.{Level}
 use Rattle.walk.specs.View.{viewOf, levelArena, arenaOf}
 use Rattle.walk.specs.Walks.{fallenBy}
 use Rattle.walk.proofs.NodeLaws.{at-node}
-use Rattle.rounds.specs.Strikes.{rightAt, firstRank, struckBy, strikes, nextRanks, AtMost, lastRound}
+use Rattle.rounds.specs.Falling.{rightAt, firstRank, fallsTo, fallsNext, nextRanks, AtMost, lastRound}
 use Rattle.rounds.proofs.Filling.{filled, filled-none, filled-more, filled-keep, filled-done, filled-below, filled-above}
 
 -- sides
@@ -40,16 +40,16 @@ pub ruleset sides = (needs, right-odd, right-even)
 -- round 1
 
 module _ (p : List ℕ) (l : Level) (k : ℕ) where
-  pub first-wrong : {r : Bool} → r ≡ rightAt (l .odd) p (k / l .power) → not r ≡ true → 0 ≡ firstRank p l k
+  pub first-wrong : {r : Bool} → r ≡ rightAt (l .odd) p (k / l .words) → not r ≡ true → 0 ≡ firstRank p l k
   unfolding firstRank both
   first-wrong {r} e n = rw (← e, not-true r n)
 
-  pub first-safe : {r s : Bool} → r ≡ rightAt (l .odd) p (k / l .power) → not r ≡ false → s ≡ safeAt p (k / l .power) → s ≡ true
+  pub first-safe : {r s : Bool} → r ≡ rightAt (l .odd) p (k / l .words) → not r ≡ false → s ≡ safeAt p (k / l .words) → s ≡ true
       → 0 ≡ firstRank p l k
   unfolding firstRank both
   first-safe {r} e n f t = rw (← e, not-false r n, ← f, t)
 
-  pub first-unsafe : {r s : Bool} → r ≡ rightAt (l .odd) p (k / l .power) → not r ≡ false → s ≡ safeAt p (k / l .power) → s ≡ false
+  pub first-unsafe : {r s : Bool} → r ≡ rightAt (l .odd) p (k / l .words) → not r ≡ false → s ≡ safeAt p (k / l .words) → s ≡ false
       → 1 ≡ firstRank p l k
   unfolding firstRank both
   first-unsafe {r} e n f t = rw (← e, not-false r n, ← f, t)
@@ -71,24 +71,24 @@ unfolding arenaOf levelArena viewOf
 actions-of p g u f l = refl
 
 module _ (p : List ℕ) (g : List (List ℕ)) (u f : List ℕ) (l : Level) where
-  pub right-is : (k : ℕ) → arenaOf p g u f l .right k ≡ rightAt (l .odd) p (k / l .power)
+  pub right-is : (k : ℕ) → arenaOf p g u f l .right k ≡ rightAt (l .odd) p (k / l .words)
   unfolding arenaOf levelArena viewOf
-  right-is k = side-is p g u f l (l .odd) (k / l .power)
+  right-is k = side-is p g u f l (l .odd) (k / l .words)
 
-  pub struck-fallen : (n k : ℕ) (ranks : List ℕ) → (getD ranks k 0 ≡ 0 → ⊥) → false ≡ struckBy (arenaOf p g u f l) n ranks k
-  unfolding struckBy
-  struck-fallen n k ranks z = sym (both-none _ _ (ne-eqb (getD ranks k 0) 0 z))
+  pub falls-fallen : (n k : ℕ) (ranks : List ℕ) → (getD ranks k 0 ≡ 0 → ⊥) → false ≡ fallsTo (arenaOf p g u f l) n ranks k
+  unfolding fallsTo
+  falls-fallen n k ranks z = sym (both-none _ _ (ne-eqb (getD ranks k 0) 0 z))
 
-  pub struck-wrong : (n k : ℕ) (ranks : List ℕ) {r : Bool} → r ≡ rightAt (l .odd) p (k / l .power) → not r ≡ true
-      → false ≡ struckBy (arenaOf p g u f l) n ranks k
-  unfolding struckBy
-  struck-wrong n k ranks {r} e z = sym (both-false _ _ (both-none _ _ (right-is k ∙ sym e ∙ not-true r z)))
+  pub falls-wrong : (n k : ℕ) (ranks : List ℕ) {r : Bool} → r ≡ rightAt (l .odd) p (k / l .words) → not r ≡ true
+      → false ≡ fallsTo (arenaOf p g u f l) n ranks k
+  unfolding fallsTo
+  falls-wrong n k ranks {r} e z = sym (both-false _ _ (both-none _ _ (right-is k ∙ sym e ∙ not-true r z)))
 
-  pub struck-doomed : (n k : ℕ) (ranks : List ℕ) {m : ℕ} {r d : Bool} → m ≡ getD ranks k 0 → m ≡ 0 → r ≡ rightAt (l .odd) p (k / l .power)
+  pub falls-all : (n k : ℕ) (ranks : List ℕ) {m : ℕ} {r d : Bool} → m ≡ getD ranks k 0 → m ≡ 0 → r ≡ rightAt (l .odd) p (k / l .words)
       → not r ≡ false → d ≡ allBelow (spoiltBy (arenaOf p g u f l) (fallenBy n ranks) k) (l .actions)
-      → d ≡ struckBy (arenaOf p g u f l) n ranks k
-  unfolding struckBy
-  struck-doomed n k ranks {m} {r} {d} e z q s a =
+      → d ≡ fallsTo (arenaOf p g u f l) n ranks k
+  unfolding fallsTo
+  falls-all n k ranks {m} {r} {d} e z q s a =
       a
       ∙ actions-are
       ∙ sym (both-second _ _ (eq-eqb _ 0 (sym e ∙ z)) ∙ both-second _ _ (right-is k ∙ sym q ∙ not-false r s))
@@ -97,7 +97,7 @@ module _ (p : List ℕ) (g : List (List ℕ)) (u f : List ℕ) (l : Level) where
           ≡ allBelow (spoiltBy (arenaOf p g u f l) (fallenBy n ranks) k) (arenaOf p g u f l .actions)
       actions-are = ap (allBelow (spoiltBy (arenaOf p g u f l) (fallenBy n ranks) k)) (sym (actions-of p g u f l))
 
-pub ruleset striking = (needs, at-node, struck-fallen, struck-wrong, struck-doomed)
+pub ruleset striking = (needs, at-node, falls-fallen, falls-wrong, falls-all)
 
 -- one round: n of them are over, and the first k nodes of the next are done
 
@@ -151,7 +151,7 @@ module _ (E : Arena) (n : ℕ) (old : List ℕ) where
       let z = within-zero n (getD old k 0) (stood-rank old k e) in
       ⊎-elim
       (λ (s : both (E .right k) (falls E n old k) ≡ true).
-      let q = in-struck E n old k e (both-left _ _ s) (both-right _ _ s) in
+      let q = in-fell E n old k e (both-left _ _ s) (both-right _ _ s) in
       within-over n (rankIn E n old k) (omega arith) ∙ sym z)
       (λ (s : both (E .right k) (falls E n old k) ≡ false).
       within-zero n (rankIn E n old k) (in-stands E n old k e s) ∙ sym z)
@@ -170,9 +170,9 @@ module _ (E : Arena) (n : ℕ) (old : List ℕ) where
       ∙ sym (fallen-is n old j))
 
   -- the half-updated list strikes what the old one does
-  struck-now : (k : ℕ) → AtMost n old → 1 ≤ n → struckBy E n (filled (rankIn E n old) k old) k ≡ strikes E n old k
-  unfolding struckBy strikes
-  struck-now k most some =
+  falls-here-now : (k : ℕ) → AtMost n old → 1 ≤ n → fallsTo E n (filled (rankIn E n old) k old) k ≡ fallsNext E n old k
+  unfolding fallsTo fallsNext
+  falls-here-now k most some =
       rw (
         filled-above (rankIn E n old) old k k (omega arith),
         stands-is old k,
@@ -182,14 +182,14 @@ module _ (E : Arena) (n : ℕ) (old : List ℕ) where
 
   -- a struck node gets the round's rank, another keeps its own
 
-  rank-struck : (k : ℕ) → strikes E n old k ≡ true → n + 1 ≡ rankIn E n old k
-  unfolding strikes
-  rank-struck k e =
+  rank-fell : (k : ℕ) → fallsNext E n old k ≡ true → n + 1 ≡ rankIn E n old k
+  unfolding fallsNext
+  rank-fell k e =
       let r = both-right (not (fell old k)) _ e in
-      add-one n ∙ sym (in-struck E n old k (not-true (fell old k) (both-left _ _ e)) (both-left _ _ r) (both-right (E .right k) _ r))
+      add-one n ∙ sym (in-fell E n old k (not-true (fell old k) (both-left _ _ e)) (both-left _ _ r) (both-right (E .right k) _ r))
 
-  rank-kept : (k : ℕ) → strikes E n old k ≡ false → getD old k 0 ≡ rankIn E n old k
-  unfolding strikes
+  rank-kept : (k : ℕ) → fallsNext E n old k ≡ false → getD old k 0 ≡ rankIn E n old k
+  unfolding fallsNext
   rank-kept k e =
       ⊎-elim
       (λ (f : fell old k ≡ true). sym (in-fallen E n old k f))
@@ -198,30 +198,30 @@ module _ (E : Arena) (n : ℕ) (old : List ℕ) where
       stood-rank old k f ∙ sym (in-stands E n old k f b))
       (bool (fell old k))
 
-  module _ (k : ℕ) {now : List ℕ} {r : Bool} (most : AtMost n old) (some : 1 ≤ n) (e : now ≡ filled (rankIn E n old) k old) (s : r ≡ struckBy E n now k) where
-    struck-old : r ≡ strikes E n old k
-    struck-old = s ∙ ap (λ (l : List ℕ). struckBy E n l k) e ∙ struck-now k most some
+  module _ (k : ℕ) {now : List ℕ} {r : Bool} (most : AtMost n old) (some : 1 ≤ n) (e : now ≡ filled (rankIn E n old) k old) (s : r ≡ fallsTo E n now k) where
+    falls-old : r ≡ fallsNext E n old k
+    falls-old = s ∙ ap (λ (l : List ℕ). fallsTo E n l k) e ∙ falls-here-now k most some
 
-    pub round-struck : r ≡ true → k < length old → set now k (n + 1) ≡ filled (rankIn E n old) (k + 1) old
-    round-struck t h = filled-more (rankIn E n old) old k e h (rank-struck k (sym struck-old ∙ t))
+    pub round-fell : r ≡ true → k < length old → set now k (n + 1) ≡ filled (rankIn E n old) (k + 1) old
+    round-fell t h = filled-more (rankIn E n old) old k e h (rank-fell k (sym falls-old ∙ t))
 
     pub round-kept : r ≡ false → k < length old → now ≡ filled (rankIn E n old) (k + 1) old
-    round-kept t h = filled-keep (rankIn E n old) old k e h (rank-kept k (sym struck-old ∙ t))
+    round-kept t h = filled-keep (rankIn E n old) old k e h (rank-kept k (sym falls-old ∙ t))
 
-    pub any-struck : r ≡ true → true ≡ anyBelow (strikes E n old) (k + 1)
-    any-struck t = sym (rw (add-one k, any-suc (strikes E n old) k) (either-right _ _ (sym struck-old ∙ t)))
+    pub any-fell : r ≡ true → true ≡ anyBelow (fallsNext E n old) (k + 1)
+    any-fell t = sym (rw (add-one k, any-suc (fallsNext E n old) k) (either-right _ _ (sym falls-old ∙ t)))
 
-    pub any-kept : {any : Bool} → any ≡ anyBelow (strikes E n old) k → r ≡ false → any ≡ anyBelow (strikes E n old) (k + 1)
+    pub any-kept : {any : Bool} → any ≡ anyBelow (fallsNext E n old) k → r ≡ false → any ≡ anyBelow (fallsNext E n old) (k + 1)
     any-kept {any} a t =
-        a ∙ sym (rw (add-one k, any-suc (strikes E n old) k) (either-first _ _ (sym struck-old ∙ t)))
+        a ∙ sym (rw (add-one k, any-suc (fallsNext E n old) k) (either-first _ _ (sym falls-old ∙ t)))
 
-nodes-of : (p : List ℕ) (g : List (List ℕ)) (u f : List ℕ) (l : Level) → arenaOf p g u f l .nodes ≡ length p * l .power
+nodes-of : (p : List ℕ) (g : List (List ℕ)) (u f : List ℕ) (l : Level) → arenaOf p g u f l .nodes ≡ length p * l .words
 unfolding arenaOf levelArena viewOf
 nodes-of p g u f l = refl
 
 pub round-done : (p : List ℕ) (g : List (List ℕ)) (u f : List ℕ) (l : Level) (n k : ℕ) (old : List ℕ) {m : List ℕ}
     → m ≡ filled (rankIn (arenaOf p g u f l) n old) k old → length old ≡ l .nodes → k ≤ l .nodes → l .nodes ≤ k
-    → l .nodes ≡ length p * l .power → m ≡ nextRanks (arenaOf p g u f l) n old
+    → l .nodes ≡ length p * l .words → m ≡ nextRanks (arenaOf p g u f l) n old
 unfolding nextRanks
 round-done p g u f l n k old e h a b s =
     let q : l .nodes ≡ arenaOf p g u f l .nodes = s ∙ sym (nodes-of p g u f l) in
@@ -230,10 +230,10 @@ round-done p g u f l n k old e h a b s =
 pub any-over : (t : ℕ → Bool) {k n : ℕ} {any : Bool} → any ≡ anyBelow t k → k ≤ n → n ≤ k → any ≡ anyBelow t n
 any-over t {k} {n} e a b = let q : k ≡ n = omega arith in e ∙ ap (anyBelow t) q
 
-pub none-struck : (t : ℕ → Bool) → false ≡ anyBelow t 0
-none-struck t = sym (any-none t)
+pub none-fell : (t : ℕ → Bool) → false ≡ anyBelow t 0
+none-fell t = sym (any-none t)
 
-pub ruleset rounding = (needs, filled-none, none-struck, round-done, any-over)
+pub ruleset rounding = (needs, filled-none, none-fell, round-done, any-over)
 
 -- all rounds
 
@@ -245,7 +245,7 @@ module _ (p : List ℕ) (g : List (List ℕ)) (u f : List ℕ) (l : Level) where
   abbrev arenaHere : Arena
   arenaHere = arenaOf p g u f l
 
-  safe-is : (k : ℕ) → arenaHere .safe k ≡ safeAt p (k / l .power)
+  safe-is : (k : ℕ) → arenaHere .safe k ≡ safeAt p (k / l .words)
   unfolding arenaOf levelArena viewOf
   safe-is k = refl
 
@@ -254,13 +254,13 @@ module _ (p : List ℕ) (g : List (List ℕ)) (u f : List ℕ) (l : Level) where
   first-rank-is k =
       rw (fell-false (ranksAfter arenaHere 0) k (rank-zero arenaHere k), right-is p g u f l k, safe-is k)
 
-  pub after-first : l .nodes ≡ length p * l .power → tabulate (firstRank p l) 0 (l .nodes) ≡ ranksAfter arenaHere 1
+  pub after-first : l .nodes ≡ length p * l .words → tabulate (firstRank p l) 0 (l .nodes) ≡ ranksAfter arenaHere 1
   after-first s =
       ap (tabulate (firstRank p l) 0) (s ∙ sym (nodes-of p g u f l))
       ∙ tabulate-same (firstRank p l) (rankIn arenaHere 0 (ranksAfter arenaHere 0)) 0 (arenaHere .nodes) (λ k h. first-rank-is k)
       ∙ sym (after-suc arenaHere 0)
 
-  pub first-ranked : {ranks : List ℕ} → ranks ≡ tabulate (firstRank p l) 0 (l .nodes) → l .nodes ≡ length p * l .power
+  pub first-ranked : {ranks : List ℕ} → ranks ≡ tabulate (firstRank p l) 0 (l .nodes) → l .nodes ≡ length p * l .words
       → ranks ≡ ranksAfter arenaHere 1
   first-ranked e s = e ∙ after-first s
 
@@ -285,7 +285,7 @@ module _ (E : Arena) (n : ℕ) {ranks : List ℕ} (e : ranks ≡ ranksAfter E n)
 
   -- a round in which nothing is struck is the last
 
-  same-ranks : anyBelow (strikes E n ranks) (E .nodes) ≡ false → nextRanks E n ranks ≡ ranks
+  same-ranks : anyBelow (fallsNext E n ranks) (E .nodes) ≡ false → nextRanks E n ranks ≡ ranks
   unfolding nextRanks
   same-ranks a =
       ext-getD 0 (tabulate (rankIn E n ranks) 0 (E .nodes)) ranks
@@ -293,42 +293,42 @@ module _ (E : Arena) (n : ℕ) {ranks : List ℕ} (e : ranks ≡ ranksAfter E n)
       (λ k h.
       let b : k < E .nodes = rw (length-tabulate (rankIn E n ranks) 0 (E .nodes)) at h in
       getD-tabulate (rankIn E n ranks) (E .nodes) k 0 b
-      ∙ sym (rank-kept E n ranks k (any-below-none (strikes E n ranks) (E .nodes) a k b)))
+      ∙ sym (rank-kept E n ranks k (any-below-none (fallsNext E n ranks) (E .nodes) a k b)))
 
-  final-now : 1 ≤ n → anyBelow (strikes E n ranks) (E .nodes) ≡ false → finalRanks E ≡ ranksAfter E n
+  final-now : 1 ≤ n → anyBelow (fallsNext E n ranks) (E .nodes) ≡ false → finalRanks E ≡ ranksAfter E n
   final-now h a =
       let d = ranked-next {now = nextRanks E n ranks} refl in
       quiet-last E n h (ap (ranksAfter E) (sym (add-one n)) ∙ sym d ∙ same-ranks a ∙ e)
 
-  pub ranked-final : {now : List ℕ} → 1 ≤ n → now ≡ nextRanks E n ranks → anyBelow (strikes E n ranks) (E .nodes) ≡ false → now ≡ finalRanks E
+  pub ranked-final : {now : List ℕ} → 1 ≤ n → now ≡ nextRanks E n ranks → anyBelow (fallsNext E n ranks) (E .nodes) ≡ false → now ≡ finalRanks E
   ranked-final h d a = d ∙ same-ranks a ∙ e ∙ sym (final-now h a)
 
-  pub final-most : {now : List ℕ} → 1 ≤ n → now ≡ nextRanks E n ranks → anyBelow (strikes E n ranks) (E .nodes) ≡ false → AtMost n now
+  pub final-most : {now : List ℕ} → 1 ≤ n → now ≡ nextRanks E n ranks → anyBelow (fallsNext E n ranks) (E .nodes) ≡ false → AtMost n now
   final-most h d a k = rw (d ∙ same-ranks a) (ranked-most k)
 
   -- a round in which a node is struck leaves fewer standing
 
-  struck-stands : (k : ℕ) → strikes E n ranks k ≡ true → fell ranks k ≡ false
-  unfolding strikes
-  struck-stands k t = not-true (fell ranks k) (both-left _ _ t)
+  falls-stands : (k : ℕ) → fallsNext E n ranks k ≡ true → fell ranks k ≡ false
+  unfolding fallsNext
+  falls-stands k t = not-true (fell ranks k) (both-left _ _ t)
 
-  pub ranked-fewer : {now : List ℕ} → now ≡ nextRanks E n ranks → anyBelow (strikes E n ranks) (E .nodes) ≡ true
+  pub ranked-fewer : {now : List ℕ} → now ≡ nextRanks E n ranks → anyBelow (fallsNext E n ranks) (E .nodes) ≡ true
       → standing now (E .nodes) < standing ranks (E .nodes)
   unfolding standing
   ranked-fewer {now} d a =
-      let s = any-some (strikes E n ranks) (E .nodes) a in
+      let s = any-some (fallsNext E n ranks) (E .nodes) a in
       ⊎-elim
       (λ same.
       let q = same (s .0) (s .1) in
-      let r = struck-stands (s .0) (s .2) in
+      let r = falls-stands (s .0) (s .2) in
       absurd (not-both (ap not r) (sym q ∙ ap not (fell-true now (s .0) (new (s .0) (s .1) (s .2))))))
       (λ l. l)
       (count-less (λ k. not (fell now k)) (λ k. not (fell ranks k)) (E .nodes) (λ k t. older k (bool (fell ranks k)) t))
     where
-      new : (k : ℕ) → k < E .nodes → strikes E n ranks k ≡ true → 0 < getD now k 0
+      new : (k : ℕ) → k < E .nodes → fallsNext E n ranks k ≡ true → 0 < getD now k 0
       new k h t =
           let q : getD now k 0 ≡ rankIn E n ranks k = ap (λ (l : List ℕ). getD l k 0) d ∙ next-at E n ranks k h in
-          let r = rank-struck E n ranks k t in
+          let r = rank-fell E n ranks k t in
           omega arith
 
       older : (k : ℕ) → (fell ranks k ≡ true) ⊎ (fell ranks k ≡ false) → not (fell now k) ≡ true → not (fell ranks k) ≡ true
@@ -360,39 +360,39 @@ last-most (r ∷ ranks) (suc k) = let a = last-most ranks k in omega arith
 
 -- the same at the number of nodes that the level has
 
-module _ (p : List ℕ) (g : List (List ℕ)) (u f : List ℕ) (l : Level) (s : l .nodes ≡ length p * l .power) (n : ℕ) {ranks now : List ℕ}
+module _ (p : List ℕ) (g : List (List ℕ)) (u f : List ℕ) (l : Level) (s : l .nodes ≡ length p * l .words) (n : ℕ) {ranks now : List ℕ}
     (e : ranks ≡ ranksAfter (arenaOf p g u f l) n) (d : now ≡ nextRanks (arenaOf p g u f l) n ranks)
-    {r : Bool} (a : r ≡ anyBelow (strikes (arenaOf p g u f l) n ranks) (l .nodes)) where
+    {r : Bool} (a : r ≡ anyBelow (fallsNext (arenaOf p g u f l) n ranks) (l .nodes)) where
   all-nodes : l .nodes ≡ arenaOf p g u f l .nodes
   all-nodes = s ∙ sym (nodes-of p g u f l)
 
-  struck-here : anyBelow (strikes (arenaOf p g u f l) n ranks) (arenaOf p g u f l .nodes) ≡ r
-  struck-here = ap (anyBelow (strikes (arenaOf p g u f l) n ranks)) (sym all-nodes) ∙ sym a
+  falls-here : anyBelow (fallsNext (arenaOf p g u f l) n ranks) (arenaOf p g u f l .nodes) ≡ r
+  falls-here = ap (anyBelow (fallsNext (arenaOf p g u f l) n ranks)) (sym all-nodes) ∙ sym a
 
   pub rounds-final : 1 ≤ n → not r ≡ true → now ≡ finalRanks (arenaOf p g u f l)
-  rounds-final h t = ranked-final (arenaOf p g u f l) n e h d (struck-here ∙ not-true r t)
+  rounds-final h t = ranked-final (arenaOf p g u f l) n e h d (falls-here ∙ not-true r t)
 
   -- the number of a round in which a node is struck is reached, and the last one's is the largest
   pub rounds-reach : not r ≡ false → n + 1 ≤ lastRound now
   rounds-reach t =
       let E = arenaOf p g u f l in
-      let s = any-some (strikes E n ranks) (E .nodes) (struck-here ∙ not-false r t) in
+      let s = any-some (fallsNext E n ranks) (E .nodes) (falls-here ∙ not-false r t) in
       let q : getD now (s .0) 0 ≡ rankIn E n ranks (s .0) = ap (λ (l : List ℕ). getD l (s .0) 0) d ∙ next-at E n ranks (s .0) (s .1) in
-      let z = rank-struck E n ranks (s .0) (s .2) in
+      let z = rank-fell E n ranks (s .0) (s .2) in
       let m = last-most now (s .0) in
       omega arith
 
   pub rounds-last : 1 ≤ n → not r ≡ true → n ≤ lastRound ranks → n ≡ lastRound now
   rounds-last h t m =
       let E = arenaOf p g u f l in
-      let a = struck-here ∙ not-true r t in
+      let a = falls-here ∙ not-true r t in
       let b = last-le now n h (final-most E n e h d a) in
       let c : lastRound now ≡ lastRound ranks = ap lastRound (d ∙ same-ranks E n e a) in
       omega arith
 
   pub rounds-fewer : not r ≡ false → standing now (l .nodes) < standing ranks (l .nodes)
   rounds-fewer t =
-      let h = ranked-fewer (arenaOf p g u f l) n e d (struck-here ∙ not-false r t) in
+      let h = ranked-fewer (arenaOf p g u f l) n e d (falls-here ∙ not-false r t) in
       let x = ap (standing now) all-nodes in
       let y = ap (standing ranks) all-nodes in
       omega arith

@@ -1,2 +1,2 @@
 -- One round over the solver's arrays, and what all rounds leave. Each file says what it defines.
-pub mod Strikes
+pub mod Falling

@@ -3,7 +3,7 @@ use sheet::kinds::controller_at;
 use sheet::kinds::safe_at;
 use walk::level::Level;
 use walk::level::is_sized;
-use walk::walk::doomed;
+use walk::walk::all_spoilt;
 ghost use mathlib.Core.Path.{_≡_};
 ghost use Prim.Native.Nat.{_≤_, _<_};
 ghost use lib.ListN.{length};
@@ -11,7 +11,7 @@ ghost use Rattle.theory.specs.Fold.{anyBelow, tabulate};
 ghost use Rattle.theory.specs.Rounds.{finalRanks};
 ghost use Rattle.walk.specs.View.{arenaOf};
 ghost use Rattle.walk.specs.Nodes.{Sized};
-ghost use Rattle.rounds.specs.Strikes.{rightAt, firstRank, struckBy, strikes, nextRanks, AtMost, lastRound, isFitted, Ranked};
+ghost use Rattle.rounds.specs.Falling.{rightAt, firstRank, fallsTo, fallsNext, nextRanks, AtMost, lastRound, isFitted, Ranked};
 
 // Is this position of the side whose nodes can fall?
 pub fn on_right(p: &[u8], odd: bool, q: usize) -> bool
@@ -27,7 +27,7 @@ fn first_rank(p: &[u8], level: Level, k: usize) -> u16
     requires { ⌜ Sized (length (now p)) level ⌝ }
     ensures { λ r. ⌜ r ≡ firstRank (now (p .entry)) level k ⌝ }
 {
-    let q = k / level.power;
+    let q = k / level.words;
     if !on_right(p, level.odd, q) {
         return 0;
     }
@@ -49,7 +49,7 @@ fn first_round(p: &[u8], level: Level, ranks: &mut [u16])
 }
 
 // Does node k fall now, to the nodes of rank 1 to n?
-fn struck(
+fn falls_now(
     p: &[u8],
     grid: &[[u16; 8]; 256],
     u: &[u8],
@@ -60,16 +60,16 @@ fn struck(
     k: usize,
 ) -> bool
     requires { ⌜ (Sized (length (now p)) level) × (k < level .nodes) × (length (now ranks) ≡ level .nodes) ⌝ }
-    ensures { λ r. ⌜ r ≡ struckBy (arenaOf (now (p .entry)) (now (grid .entry)) (now (u .entry)) (now (firsts .entry)) level) n (now (ranks .entry)) k ⌝ }
+    ensures { λ r. ⌜ r ≡ fallsTo (arenaOf (now (p .entry)) (now (grid .entry)) (now (u .entry)) (now (firsts .entry)) level) n (now (ranks .entry)) k ⌝ }
 {
     let rank = ranks[k];
     if rank != 0 {
         return false;
     }
-    if !on_right(p, level.odd, k / level.power) {
+    if !on_right(p, level.odd, k / level.words) {
         return false;
     }
-    doomed(p, grid, u, firsts, level, ranks, n, k)
+    all_spoilt(p, grid, u, firsts, level, ranks, n, k)
 }
 
 // Round n + 1, after n rounds. A node struck now has rank n + 1, so it does not count as fallen until the next round. Says
@@ -84,12 +84,12 @@ fn round(
     n: u16,
 ) -> bool
     requires { ⌜ (Sized (length (now p)) level) × (length (now ranks) ≡ level .nodes) × (AtMost n (now ranks)) × (1 ≤ n) × (n < 65535) ⌝ }
-    ensures { λ r. ⌜ (now (ranks .exit) ≡ nextRanks (arenaOf (now (p .entry)) (now (grid .entry)) (now (u .entry)) (now (firsts .entry)) level) n (now (ranks .entry))) × (r ≡ anyBelow (strikes (arenaOf (now (p .entry)) (now (grid .entry)) (now (u .entry)) (now (firsts .entry)) level) n (now (ranks .entry))) (level .nodes)) ⌝ }
+    ensures { λ r. ⌜ (now (ranks .exit) ≡ nextRanks (arenaOf (now (p .entry)) (now (grid .entry)) (now (u .entry)) (now (firsts .entry)) level) n (now (ranks .entry))) × (r ≡ anyBelow (fallsNext (arenaOf (now (p .entry)) (now (grid .entry)) (now (u .entry)) (now (firsts .entry)) level) n (now (ranks .entry))) (level .nodes)) ⌝ }
 {
     let mut any = false;
     let mut k: usize = 0;
     while k < level.nodes {
-        if struck(p, grid, u, firsts, level, ranks, n, k) {
+        if falls_now(p, grid, u, firsts, level, ranks, n, k) {
             ranks[k] = n + 1;
             any = true;
         }

@@ -16,8 +16,8 @@ use Rattle.theory.proofs.Answer.{check-accepted}
 use Rattle.sheet.specs.Form.{offsetOf, lengthOf, placeOf, entryOk, contentsOk, placedAt, partAt, bodyOf}
 use Rattle.sheet.specs.Kinds.{controllerAt}
 use Rattle.sheet.specs.Checks.{positionsOk, headerOk, targetsOk, movesOk, allLeave, nodesOf, sizeOk}
-use Rattle.sheet.specs.Reading.{gameLetters, headerBody, positionsBody, targetsBody, movesBody, startOf, actionCount, delayOf, layoutOf, readAnswer, meaning, refusalNumber}
-use Rattle.sheet.specs.Meant.{gameOf}
+use Rattle.sheet.specs.Reading.{gameLetters, headerBody, positionsBody, targetsBody, movesBody, startOf, actionCount, delayOf, layoutOf, readAnswer, readingMeans, refusalNumber}
+use Rattle.sheet.specs.SheetGame.{gameOf}
 use Rattle.sheet.specs.declared.refusal.Refusal.{Refusal}
 use Rattle.sheet.specs.declared.reading.Layout.{Layout}
 use Rattle.sheet.specs.declared.reading.Reading.{Reading}
@@ -169,9 +169,9 @@ arena-nodes s d = refl
 
 -- what a caller learns from the arm of a `match` or `let else` that it is in
 
-module _ (s : List ℕ) (r : Reading) (e : meaning r ≡ readAnswer s) where
+module _ (s : List ℕ) (r : Reading) (e : readingMeans r ≡ readAnswer s) where
   pub read-accepted : (l : Layout) → r ≡ Accepted l → readAnswer s ≡ accepted l
-  read-accepted l f = sym e ∙ ap meaning f
+  read-accepted l f = sym e ∙ ap readingMeans f
 
   pub read-refused : (x : Refusal) (n : ℕ) → r ≡ Refused x → n ≡ refusalNumber r → readAnswer s ≡ refused n
-  read-refused x n f g = sym e ∙ ap meaning f ∙ ap refused (sym (g ∙ ap refusalNumber f))
+  read-refused x n f g = sym e ∙ ap readingMeans f ∙ ap refused (sym (g ∙ ap refusalNumber f))

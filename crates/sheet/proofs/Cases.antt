@@ -8,11 +8,12 @@ use Rattle.theory.specs.Fold.{both, either, allBelow, anyBelow, tabulate}
 use Rattle.theory.specs.Answer.{check}
 use Rattle.theory.specs.Game.{absent, to}
 use Rattle.sheet.specs.Limits.{width}
-use Rattle.sheet.specs.Form.{numberAt, entrySize, letterOf, offsetOf, lengthOf, placeOf, entryOk, contentsOk, placedAt, partAt, bodyOf}
+use Rattle.sheet.specs.Form.{entrySize, letterOf, offsetOf, lengthOf, placeOf, entryOk, contentsOk, placedAt, partAt, bodyOf}
+use Rattle.theory.specs.Bytes.{numberAt}
 use Rattle.sheet.specs.Kinds.{kindOf, kindAt, isKnown, isController, isEnvironment, isSafe, knownAt, controllerAt, environmentAt, safeAt}
 use Rattle.sheet.specs.Checks.{positionsOk, headerOk, keyAt, risesAt, targetOk, targetsOk, moveOk, movesOk, beginsAt, hasLine, leavesAt, allLeave, nodesOf, sizeOk}
 use Rattle.sheet.specs.Reading.{gameLetters, startOf, actionCount, delayOf, layoutOf, readAnswer}
-use Rattle.sheet.specs.Meant.{isLine, targetIn, movesIn, targetOf, movesOf, gameOf}
+use Rattle.sheet.specs.SheetGame.{isLine, targetIn, movesIn, targetOf, movesOf, gameOf}
 use Rattle.sheet.specs.Cases.{Case, guess, twoBytes, contentsFrom, sheetWith, guessS, guessP, guessC, guessU, loop, lines, star, layout, right, wrong, cases}
 
 pub answers : map (λ (x : Case). readAnswer (x .sheet)) cases ≡ map (λ (x : Case). x .answer) cases

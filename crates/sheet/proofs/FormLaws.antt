@@ -13,7 +13,8 @@ use borrow.Author.Needs.{needs}
 use borrow.Author.Tests.{le-leb, lt-leb, eq-eqb, ne-eqb}
 use Rattle.theory.specs.Fold.{allBelow}
 use Rattle.theory.proofs.Fold.{both-true, both-false, all-none, all-fails, all-again, both-none, both-second, take-rest}
-use Rattle.sheet.specs.Form.{numberAt, entrySize, letterOf, offsetOf, lengthOf, placeOf, entryOk, contentsOk, placedAt, partAt, bodyOf}
+use Rattle.sheet.specs.Form.{entrySize, letterOf, offsetOf, lengthOf, placeOf, entryOk, contentsOk, placedAt, partAt, bodyOf}
+use Rattle.theory.specs.Bytes.{numberAt}
 use Rattle.sheet.specs.declared.form.Place.{Place}
 
 -- bytes and two-byte numbers

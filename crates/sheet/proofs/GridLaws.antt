@@ -12,7 +12,7 @@ use borrow.Author.Tests.{eq-eqb, ne-eqb}
 use Rattle.theory.specs.Fold.{tabulate}
 use Rattle.theory.specs.Game.{to}
 use Rattle.theory.proofs.Fold.{same?, both-true, both-false, length-tabulate, getD-tabulate, tabulate-same, both-none}
-use Rattle.sheet.specs.Meant.{isLine, targetIn, markOf, rowOf, gridAfter, gridOf}
+use Rattle.sheet.specs.SheetGame.{isLine, targetIn, markOf, rowOf, gridAfter, gridOf}
 
 module _ (c : List ℕ) (n : ℕ) where
   length-row : (q : ℕ) → length (rowOf c n q) ≡ 8

@@ -15,7 +15,7 @@ use Rattle.theory.proofs.Fold.{bool, not-both, both-true, both-left, both-right
 use Rattle.sheet.specs.Kinds.{kindAt, isController, isEnvironment, controllerAt, environmentAt}
 use Rattle.sheet.specs.Checks.{keyAt, targetOk, targetsOk, moveOk, movesOk, risesAt, beginsAt, hasLine, leavesAt, allLeave}
 use Rattle.sheet.specs.Reading.{positionsBody, targetsBody, movesBody, startOf, actionCount, readAnswer}
-use Rattle.sheet.specs.Meant.{isLine, targetIn, targetOf, movesIn, movesOf, gameOf, markOf, unmark, gridOf, targetAt}
+use Rattle.sheet.specs.SheetGame.{isLine, targetIn, targetOf, movesIn, movesOf, gameOf, markOf, unmark, gridOf, targetAt}
 use Rattle.sheet.proofs.GridLaws.{target-next, cell-at, row-at}
 use Rattle.sheet.proofs.Accepted.{Read, read-is, ranges}
 use Rattle.sheet.specs.declared.kinds.Kind.{Kind}

@@ -2,16 +2,12 @@
 -- bytes each; a sheet is the list of its bytes. Numbers are compared as they are, so nothing wraps. Assumes nothing.
 use Prim.Native.Nat.{ℕ, zero, suc, _+_, _*_}
 use mathlib.Core.Bool.{Bool}
-use mathlib.Core.List.{List}
+use mathlib.Core.List.{List, [], _∷_, _++_}
 use lib.Dec.{eqb, leb}
 use lib.ListN.{length, getD, take, drop}
 use Rattle.theory.specs.Fold.{both, allBelow}
 use Rattle.sheet.specs.declared.form.Place.{Place}
-
--- the number of w bytes at i, "low byte first"; a byte past the end reads as 0
-unfoldable pub numberAt : ℕ → List ℕ → ℕ → ℕ
-numberAt zero s i = 0
-numberAt (suc w) s i = getD s i 0 + 256 * numberAt w s (suc i)
+use Rattle.theory.specs.Bytes.{numberAt, bytesOf}
 
 unfoldable pub entrySize : ℕ → ℕ
 entrySize w = 1 + 2 * w
@@ -51,3 +47,27 @@ partAt s x = take (x .size) (drop (x .at) s)
 
 unfoldable pub bodyOf : ℕ → List ℕ → ℕ → List ℕ
 bodyOf w s k = partAt s (placedAt w s k)
+
+-- a body with its letter
+pub record Part : Type 0 where
+  pub letter : ℕ
+  pub body : List ℕ
+
+abbrev pub part : ℕ → List ℕ → Part
+part letter body = record { letter = letter; body = body }
+
+-- "An entry is a letter, an offset and a length", the body's place being at
+unfoldable pub entryOf : ℕ → ℕ → Part → List ℕ
+entryOf w at x = x .letter ∷ (bytesOf w at ++ bytesOf w (length (x .body)))
+
+-- the entries of parts whose bodies begin at a place, one after the other
+unfoldable pub entriesFrom : ℕ → ℕ → List Part → List ℕ
+entriesFrom w at [] = []
+entriesFrom w at (x ∷ rest) = entryOf w at x ++ entriesFrom w (at + length (x .body)) rest
+
+unfoldable pub bodies : List Part → List ℕ
+bodies [] = []
+bodies (x ∷ rest) = x .body ++ bodies rest
+
+unfoldable pub sheetOf : ℕ → List Part → List ℕ
+sheetOf w parts = entriesFrom w (entrySize w * length parts) parts ++ bodies parts

@@ -5,5 +5,5 @@ pub mod Refusals
 pub mod Kinds
 pub mod Checks
 pub mod Reading
-pub mod Meant
+pub mod SheetGame
 pub mod Cases

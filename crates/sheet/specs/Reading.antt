@@ -64,9 +64,9 @@ readAnswer s =
     (check (sizeOk (positionsBody s) (actionCount s) (delayOf s)) 7 (accepted (layoutOf s))))))))
 
 -- document 01's number and values for every case of the code's answer
-abbrev pub meaning : Reading → Answer Layout
-meaning (Accepted l) = accepted l
-meaning (Refused r) = refused (numberOf r)
+abbrev pub readingMeans : Reading → Answer Layout
+readingMeans (Accepted l) = accepted l
+readingMeans (Refused r) = refused (numberOf r)
 
 -- the number alone, 0 where the reading was accepted
 abbrev pub refusalNumber : Reading → ℕ

@@ -4,7 +4,8 @@ ghost use mathlib.Core.Path.{_≡_};
 ghost use Prim.Native.Nat.{_<_};
 ghost use lib.ListN.{getD};
 ghost use Rattle.sheet.specs.Limits.{width};
-ghost use Rattle.sheet.specs.Form.{numberAt, contentsOk, placedAt, partAt, bodyOf};
+ghost use Rattle.sheet.specs.Form.{contentsOk, placedAt, partAt, bodyOf};
+ghost use Rattle.theory.specs.Bytes.{numberAt};
 
 // The bytes of an entry of the contents: its letter, and two each of offset and length.
 const ENTRY: usize = 5;
@@ -30,7 +31,7 @@ pub fn byte(s: &[u8], i: usize) -> u8
 }
 
 // The two-byte number at a place, low byte first.
-pub fn word(s: &[u8], at: usize) -> usize
+pub fn two_bytes(s: &[u8], at: usize) -> usize
     ensures { λ r. ⌜ (r ≡ numberAt width (now (s .entry)) at) × (r < 65536) ⌝ }
 {
     if s.len() <= at {
@@ -55,11 +56,11 @@ pub fn contents_ok(s: &[u8], letters: &[u8]) -> bool
         if letter != wanted {
             return false;
         }
-        let offset = word(s, ENTRY * k + 1);
+        let offset = two_bytes(s, ENTRY * k + 1);
         if offset != at {
             return false;
         }
-        at = at + word(s, ENTRY * k + 3);
+        at = at + two_bytes(s, ENTRY * k + 3);
         k += 1;
     }
     at == s.len()
@@ -75,8 +76,8 @@ pub fn placed(s: &[u8], k: usize) -> Place
     let start = ENTRY * k;
     let entry = &s[start..];
     Place {
-        at: word(entry, 1),
-        size: word(entry, 3),
+        at: two_bytes(entry, 1),
+        size: two_bytes(entry, 3),
     }
 }
 

@@ -4,7 +4,7 @@ use crate::limits::ABSENT;
 use crate::limits::ROW;
 use crate::limits::ROWS;
 ghost use mathlib.Core.Path.{_≡_};
-ghost use Rattle.sheet.specs.Meant.{gridOf};
+ghost use Rattle.sheet.specs.SheetGame.{gridOf};
 
 // A line with an action that no row has is left out, so the function is total.
 pub fn grid_of(c: &[u8]) -> [[u16; ROW]; ROWS]

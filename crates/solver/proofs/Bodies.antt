@@ -13,7 +13,7 @@ use Rattle.theory.specs.Game.{Target, Game}
 use Rattle.theory.proofs.Fold.{bool, below?, both-left, both-right, all-at, first, first-suc, tabulate-zero, tabulate-suc, getD-tabulate, getD-tabulate-out}
 use Rattle.sheet.specs.Kinds.{controllerAt, safeAt}
 use Rattle.sheet.specs.Reading.{positionsBody, targetsBody, movesBody, startOf, actionCount}
-use Rattle.sheet.specs.Meant.{movesIn, movesOf, gameOf, markOf, rowOf, gridOf, targetAt, targetIn}
+use Rattle.sheet.specs.SheetGame.{movesIn, movesOf, gameOf, markOf, rowOf, gridOf, targetAt, targetIn}
 use Rattle.sheet.proofs.GridLaws.{row-at}
 use Rattle.sheet.proofs.Accepted.{Read, ranges}
 use Rattle.sheet.proofs.Legality.{legal, target-read, moves-ordered}

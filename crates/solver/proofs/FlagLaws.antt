@@ -18,7 +18,7 @@ use Rattle.theory.proofs.Tables.{good-more}
 use Rattle.sheet.specs.Form.{partAt}
 use Rattle.sheet.specs.Reading.{positionsBody, startOf, delayOf, readAnswer}
 use Rattle.sheet.specs.Reading as reading
-use Rattle.sheet.specs.Meant.{gameOf, gridOf}
+use Rattle.sheet.specs.SheetGame.{gameOf, gridOf}
 use Rattle.sheet.specs.declared.refusal.Refusal.{Refusal}
 use Rattle.sheet.specs.declared.reading.Layout.{Layout}
 use Rattle.sheet.specs.declared.reading.Reading.{Reading}
@@ -31,7 +31,8 @@ use Rattle.walk.specs.Nodes.{Sized}
 use Rattle.rounds.proofs.Filling.{filled, filled-none, filled-more, filled-done}
 use Rattle.solver.specs.Levels.{firstsOf, levelAt}
 use Rattle.solver.specs.Kept.{goodIn, firstWords}
-use Rattle.solver.specs.Solving.{over, bodiesGame}
+use Rattle.solver.specs.Solving.{bodiesGame}
+use Rattle.theory.specs.Buffer.{over}
 use Rattle.solver.specs.Flags.{flagWith, flagIn, countIn, flagsCount, flagsAfter}
 use Rattle.solver.proofs.LevelLaws.{words-is, level-sized}
 use Rattle.solver.proofs.GoodLaws.{good-is}
@@ -78,7 +79,7 @@ none-written : (s ranks b : List ℕ) → flagsCount s (length b) ≡ 0 → b �
 unfolding flagsAfter over
 none-written s ranks b e = rw (e, tabulate-zero (flagWith (gameOf s) (delayOf s) ranks) 0)
 
-module _ (s : List ℕ) (rd : Reading) (e : reading.meaning rd ≡ readAnswer s) where
+module _ (s : List ℕ) (rd : Reading) (e : reading.readingMeans rd ≡ readAnswer s) where
   module _ (x : Refusal) (a : rd ≡ Refused x) where
     pub refused-count : (room : ℕ) → 0 ≡ flagsCount s room
     unfolding flagsCount countIn
@@ -90,12 +91,12 @@ module _ (s : List ℕ) (rd : Reading) (e : reading.meaning rd ≡ readAnswer s)
   module _ (l : Layout) (a : rd ≡ Accepted l) (p : List ℕ) (ep : p ≡ partAt s (l .positions)) (v : Level)
       (is : v ≡ levelAt (length p) (l .start) (l .actions) (l .delay)) where
     answered : readAnswer s ≡ accepted l
-    answered = sym e ∙ ap reading.meaning a
+    answered = sym e ∙ ap reading.readingMeans a
 
     pub sized-read : Sized (length p) v
     sized-read = rw is (level-sized (room-read s rd e l a p ep) (l .start))
 
-    pub few-words-read : v .power < 65536
+    pub few-words-read : v .words < 65536
     few-words-read = let h = sized-read .few-words in omega arith
 
     pub few-actions-read : v .actions < 256

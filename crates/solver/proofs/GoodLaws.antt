@@ -15,22 +15,22 @@ use Rattle.theory.specs.Fold.{both, anyBelow}
 use Rattle.theory.specs.Game.{Game}
 use Rattle.theory.specs.Rounds.{fell, finalRanks, kept}
 use Rattle.theory.specs.Delay.{odd, words, onRight, arena, keptAt, goodBy, goodFrom, goodWith, winning, initialWords}
-use Rattle.theory.proofs.Fold.{both-true, any-none, any-holds, any-again, any-done, both-none, both-second}
+use Rattle.theory.proofs.Fold.{not-not, both-true, any-none, any-holds, any-again, any-done, both-none, both-second}
 use Rattle.sheet.specs.Kinds.{safeAt}
-use Rattle.sheet.specs.Meant.{unmark}
+use Rattle.sheet.specs.SheetGame.{unmark}
 use Rattle.walk.specs.declared.level.Level.{Level}
 use Rattle.walk.specs.View.{cellAt, viewOf, levelArena, arenaOf}
 use Rattle.walk.specs.Nodes.{Sized}
 use Rattle.walk.proofs.Products.{product-small, product-fits, sum-fits}
 use Rattle.walk.proofs.WalkLaws.{unmark-absent, unmark-to}
-use Rattle.rounds.specs.Strikes.{rightAt}
+use Rattle.rounds.specs.Falling.{rightAt}
 use Rattle.solver.specs.Levels.{levelAt}
 use Rattle.solver.specs.Kept.{keptIn, goodOn, goodIn, wordsOn, firstWords}
 use Rattle.solver.proofs.LevelLaws.{arena-is, words-is}
 
 -- kept nodes: r is the answer on the side
 
-module _ (p : List ℕ) (l : Level) (ranks : List ℕ) (k : ℕ) {r : Bool} (e : r ≡ rightAt (l .odd) p (k / l .power)) where
+module _ (p : List ℕ) (l : Level) (ranks : List ℕ) (k : ℕ) {r : Bool} (e : r ≡ rightAt (l .odd) p (k / l .words)) where
   pub kept-wrong : not r ≡ true → false ≡ keptIn p l ranks k
   unfolding keptIn
   kept-wrong n = sym (both-none _ _ (sym e ∙ not-true r n))
@@ -41,21 +41,17 @@ module _ (p : List ℕ) (l : Level) (ranks : List ℕ) (k : ℕ) {r : Bool} (e :
 
   pub kept-rank : not r ≡ false → eqb (getD ranks k 0) 0 ≡ keptIn p l ranks k
   unfolding keptIn fell
-  kept-rank n = sym (both-second _ _ (sym e ∙ not-false r n) ∙ twice (eqb (getD ranks k 0) 0))
-    where
-      twice : (b : Bool) → not (not b) ≡ b
-      twice true = refl
-      twice false = refl
+  kept-rank n = sym (both-second _ _ (sym e ∙ not-false r n) ∙ not-not (eqb (getD ranks k 0) 0))
 
 pub ruleset keeping = (needs, kept-wrong, kept-past, kept-rank)
 
 -- first words
 
-pub words-odd : (l : Level) → l .odd ≡ true → l .power * l .actions ≡ firstWords l
+pub words-odd : (l : Level) → l .odd ≡ true → l .words * l .actions ≡ firstWords l
 unfolding firstWords wordsOn
 words-odd l e = rw e
 
-pub words-even : (l : Level) → l .odd ≡ false → l .power ≡ firstWords l
+pub words-even : (l : Level) → l .odd ≡ false → l .words ≡ firstWords l
 unfolding firstWords wordsOn
 words-even l e = rw e
 
@@ -74,13 +70,13 @@ first-words-few {m} {l} s = by (l .odd)
 
 -- a node number fits a word
 
-pub node-fits : {m q : ℕ} {l : Level} → Sized m l → q < 65536 → Fits w64 (q * l .power)
+pub node-fits : {m q : ℕ} {l : Level} → Sized m l → q < 65536 → Fits w64 (q * l .words)
 node-fits s h = let f = s .few-words in product-fits (omega arith) (omega arith)
 
-pub even-fits : {m q v : ℕ} {l : Level} → Sized m l → q < 65536 → v < firstWords l → Fits w64 (q * l .power + v)
+pub even-fits : {m q v : ℕ} {l : Level} → Sized m l → q < 65536 → v < firstWords l → Fits w64 (q * l .words + v)
 even-fits s h k = let f = s .few-words in let g = first-words-few s in sum-fits (omega arith) (omega arith) (omega arith)
 
-pub odd-fits : {m q : ℕ} (v : ℕ) {l : Level} → Sized m l → q < 65536 → Fits w64 (q * l .power + v % l .power)
+pub odd-fits : {m q : ℕ} (v : ℕ) {l : Level} → Sized m l → q < 65536 → Fits w64 (q * l .words + v % l .words)
 odd-fits v s h =
     let f = s .few-words in
     let r = mod-lt v (s .some-word) in
@@ -91,7 +87,7 @@ module _ (p : List ℕ) (g : List (List ℕ)) (l : Level) (ranks : List ℕ) (v 
   unfolding goodIn
   by-parity e = ap (λ b. goodOn b p g l ranks v) e
 
-  pub good-even : {r : Bool} → not (l .odd) ≡ true → r ≡ keptIn p l ranks (l .start * l .power + v) → r ≡ goodIn p g l ranks v
+  pub good-even : {r : Bool} → not (l .odd) ≡ true → r ≡ keptIn p l ranks (l .start * l .words + v) → r ≡ goodIn p g l ranks v
   unfolding goodOn
   good-even n e = e ∙ sym (by-parity (not-true (l .odd) n))
 
@@ -100,21 +96,21 @@ module _ (p : List ℕ) (g : List (List ℕ)) (l : Level) (ranks : List ℕ) (v 
     unfolding goodOn
     good-unsafe x = sym (by-parity (not-false (l .odd) n) ∙ both-none _ _ (sym e ∙ not-true s x))
 
-    module _ (t : ℕ) (x : not s ≡ false) (c : unmark t ≡ cellAt g (l .start) (v / l .power)) where
-      reached : goodIn p g l ranks v ≡ keptAt (keptIn p l ranks) (l .power) (v % l .power) (unmark t)
+    module _ (t : ℕ) (x : not s ≡ false) (c : unmark t ≡ cellAt g (l .start) (v / l .words)) where
+      reached : goodIn p g l ranks v ≡ keptAt (keptIn p l ranks) (l .words) (v % l .words) (unmark t)
       unfolding goodOn
       reached =
           by-parity (not-false (l .odd) n)
           ∙ both-second _ _ (sym e ∙ not-false s x)
-          ∙ ap (keptAt (keptIn p l ranks) (l .power) (v % l .power)) (sym c)
+          ∙ ap (keptAt (keptIn p l ranks) (l .words) (v % l .words)) (sym c)
 
       pub good-absent : t ≡ 256 → false ≡ goodIn p g l ranks v
       unfolding keptAt
-      good-absent z = sym (reached ∙ ap (keptAt (keptIn p l ranks) (l .power) (v % l .power)) (unmark-absent z))
+      good-absent z = sym (reached ∙ ap (keptAt (keptIn p l ranks) (l .words) (v % l .words)) (unmark-absent z))
 
-      pub good-odd : {r : Bool} → (t ≡ 256 → ⊥) → r ≡ keptIn p l ranks (t * l .power + v % l .power) → r ≡ goodIn p g l ranks v
+      pub good-odd : {r : Bool} → (t ≡ 256 → ⊥) → r ≡ keptIn p l ranks (t * l .words + v % l .words) → r ≡ goodIn p g l ranks v
       unfolding keptAt
-      good-odd z f = f ∙ sym (reached ∙ ap (keptAt (keptIn p l ranks) (l .power) (v % l .power)) (unmark-to z))
+      good-odd z f = f ∙ sym (reached ∙ ap (keptAt (keptIn p l ranks) (l .words) (v % l .words)) (unmark-to z))
 
 pub ruleset goodness = (needs, node-fits, even-fits, odd-fits, good-even, good-unsafe, good-absent, good-odd)
 
@@ -152,10 +148,10 @@ pub kept-is : (p : List ℕ) (g : List (List ℕ)) (u f : List ℕ) (l : Level) 
     → keptIn p l ranks k ≡ kept (arenaOf p g u f l) ranks k
 unfolding keptIn kept arenaOf levelArena
 kept-is p g u f l ranks k =
-    ap (λ b. both b (not (fell ranks k))) (right-is p g u f (l .start) (l .actions) (k / l .power) (l .odd))
+    ap (λ b. both b (not (fell ranks k))) (right-is p g u f (l .start) (l .actions) (k / l .words) (l .odd))
 
 good-on-is : (p : List ℕ) (g : List (List ℕ)) (u f : List ℕ) (l : Level) (ranks : List ℕ) (v : ℕ) (b : Bool)
-    → goodOn b p g l ranks v ≡ goodBy b (viewOf p g u f (l .start) (l .actions)) (l .power) (keptIn p l ranks) v
+    → goodOn b p g l ranks v ≡ goodBy b (viewOf p g u f (l .start) (l .actions)) (l .words) (keptIn p l ranks) v
 unfolding goodOn goodBy viewOf
 good-on-is p g u f l ranks v true = refl
 good-on-is p g u f l ranks v false = refl

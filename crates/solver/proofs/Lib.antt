@@ -1,5 +1,4 @@
 -- Laws of the definitions of specs/, on which the proofs of the functions rest.
-pub mod Over
 pub mod LevelLaws
 pub mod GoodLaws
 pub mod MaskLaws
@@ -8,5 +7,4 @@ pub mod SearchLaws
 pub mod Bodies
 pub mod SolveLaws
 pub mod FlagLaws
-pub mod Demand2
 pub mod Cases

@@ -21,7 +21,7 @@ use Rattle.walk.specs.View.{viewOf, levelArena, arenaOf}
 use Rattle.walk.specs.Nodes.{Sized, isNode}
 use Rattle.walk.specs.Walks.{fallenBy}
 use Rattle.walk.proofs.NodeLaws.{at-action}
-use Rattle.rounds.specs.Strikes.{AtMost}
+use Rattle.rounds.specs.Falling.{AtMost}
 use Rattle.rounds.proofs.Filling.{filled, filled-none, filled-more, filled-done}
 use Rattle.rounds.proofs.RoundLaws.{fallen-all}
 use Rattle.solver.specs.Kept.{keptIn, allowedIn}

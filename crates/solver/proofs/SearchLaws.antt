@@ -15,16 +15,17 @@ use Rattle.theory.specs.Rounds.{finalRanks}
 use Rattle.theory.specs.Delay.{wins, losing, arena, winning, answer}
 use Rattle.theory.proofs.Fold.{below?}
 use Rattle.theory.proofs.Rounds.{final-length}
-use Rattle.theory.proofs.Waiting.{answer-wins, answer-found}
+use Rattle.theory.proofs.Monotone.{answer-wins, answer-found}
 use Rattle.sheet.specs.Checks.{nodesOf}
 use Rattle.walk.specs.declared.level.Level.{Level}
 use Rattle.walk.specs.View.{viewOf, arenaOf}
 use Rattle.walk.specs.Nodes.{Sized}
-use Rattle.rounds.specs.Strikes.{AtMost, isFitted, Ranked}
+use Rattle.rounds.specs.Falling.{AtMost, isFitted, Ranked}
 use Rattle.rounds.proofs.RankedLaws.{ranked-ranks, ranked-number}
 use Rattle.solver.specs.Levels.{Room, levelAt}
 use Rattle.solver.specs.Kept.{goodIn, firstWords}
-use Rattle.solver.specs.Solving.{solvedDelay, over, verdictBy, Stopped}
+use Rattle.solver.specs.Solving.{solvedDelay, verdictBy, Stopped}
+use Rattle.theory.specs.Buffer.{over}
 use Rattle.solver.proofs.LevelLaws.{nodes-less, room-less, level-sized, arena-is, nodes-is}
 use Rattle.solver.proofs.GoodLaws.{winning-is}
 

@@ -19,13 +19,13 @@ use Rattle.theory.proofs.Fold.{both-true, both-false, both-none}
 use Rattle.theory.proofs.Answer.{check-passed, check-failed}
 use Rattle.theory.proofs.Rounds.{final-length}
 use Rattle.theory.proofs.Region.{length-masks}
-use Rattle.theory.proofs.Waiting.{answer-least}
+use Rattle.theory.proofs.Monotone.{answer-least}
 use Rattle.sheet.specs.Form.{partAt}
 use Rattle.sheet.specs.Checks.{nodesOf}
 use Rattle.sheet.specs.Refusals.{numberOf}
 use Rattle.sheet.specs.Reading.{readAnswer, delayOf, refusalNumber, positionsBody}
 use Rattle.sheet.specs.Reading as reading
-use Rattle.sheet.specs.Meant.{gameOf, gridOf}
+use Rattle.sheet.specs.SheetGame.{gameOf, gridOf}
 use Rattle.sheet.specs.declared.refusal.Refusal.{Refusal}
 use Rattle.sheet.specs.declared.refusal.Refusal.the-variants.{Buffers}
 use Rattle.sheet.specs.declared.reading.Layout.{Layout}
@@ -36,10 +36,11 @@ use Rattle.sheet.proofs.Legality.{legal-game}
 use Rattle.walk.specs.declared.level.Level.{Level}
 use Rattle.walk.specs.View.{viewOf, arenaOf}
 use Rattle.walk.specs.Nodes.{Sized}
-use Rattle.rounds.specs.Strikes.{AtMost}
+use Rattle.rounds.specs.Falling.{AtMost}
 use Rattle.solver.specs.declared.delays.Stop.{Stop}
 use Rattle.solver.specs.Levels.{firstsOf, Room, levelAt}
-use Rattle.solver.specs.Solving.{solveAnswer, solvedDelay, over, masksAfter, ranksLeft, verdictBy, Stopped, bodiesGame, Fillable, Filled}
+use Rattle.solver.specs.Solving.{solveAnswer, solvedDelay, masksLeft, ranksLeft, verdictBy, Stopped, bodiesGame, Fillable, Filled}
+use Rattle.theory.specs.Buffer.{over}
 use Rattle.solver.proofs.LevelLaws.{nodes-less, room-less, level-sized, arena-is, nodes-is}
 use Rattle.solver.proofs.Bodies.{bodies-game}
 
@@ -154,7 +155,7 @@ pub ruleset filling =
 
 -- solving: a refused reading is handed on, and alters nothing
 
-module _ (s : List ℕ) (rd : Reading) (e : reading.meaning rd ≡ readAnswer s) where
+module _ (s : List ℕ) (rd : Reading) (e : reading.readingMeans rd ≡ readAnswer s) where
   module _ (x : Refusal) (a : rd ≡ Refused x) where
     refuses : (m k : ℕ) → solveAnswer s m k ≡ refused (numberOf x)
     unfolding solveAnswer onAccepted
@@ -163,8 +164,8 @@ module _ (s : List ℕ) (rd : Reading) (e : reading.meaning rd ≡ readAnswer s)
     pub handed-on : (m k : ℕ) {n : ℕ} → n ≡ refusalNumber rd → refused n ≡ solveAnswer s m k
     handed-on m k {n} f = ap refused (f ∙ ap refusalNumber a) ∙ sym (refuses m k)
 
-    pub masks-untouched : (b : List ℕ) (m k : ℕ) → b ≡ masksAfter s (solveAnswer s m k) b
-    unfolding masksAfter
+    pub masks-untouched : (b : List ℕ) (m k : ℕ) → b ≡ masksLeft s (solveAnswer s m k) b
+    unfolding masksLeft
     masks-untouched b m k = rw (refuses m k)
 
     pub ranks-untouched : (b : List ℕ) (m k : ℕ) → b ≡ ranksLeft s (solveAnswer s m k) b
@@ -174,7 +175,7 @@ module _ (s : List ℕ) (rd : Reading) (e : reading.meaning rd ≡ readAnswer s)
   -- an accepted reading: its P body and its level
   module _ (l : Layout) (a : rd ≡ Accepted l) (p : List ℕ) (ep : p ≡ partAt s (l .positions)) where
     answered : readAnswer s ≡ accepted l
-    answered = sym e ∙ ap reading.meaning a
+    answered = sym e ∙ ap reading.readingMeans a
 
     positions-is : p ≡ positionsBody s
     positions-is = ep ∙ carries s l answered .positions-part
@@ -227,16 +228,16 @@ module _ (s : List ℕ) (rd : Reading) (e : reading.meaning rd ≡ readAnswer s)
       pub ranks-refused : (m k : ℕ) {n : ℕ} → k < v .nodes → n ≡ numberOf Buffers → refused n ≡ solveAnswer s m k
       ranks-refused m k h f = ap refused f ∙ sym (refuses-8 m k (few-ranks m k h))
 
-      pub masks-kept-1 : (b : List ℕ) (m k : ℕ) → m < v .nodes → b ≡ masksAfter s (solveAnswer s m k) b
-      unfolding masksAfter
+      pub masks-kept-1 : (b : List ℕ) (m k : ℕ) → m < v .nodes → b ≡ masksLeft s (solveAnswer s m k) b
+      unfolding masksLeft
       masks-kept-1 b m k h = rw (refuses-8 m k (few-masks m k h))
 
       pub ranks-kept-1 : (b : List ℕ) (m k : ℕ) → m < v .nodes → b ≡ ranksLeft s (solveAnswer s m k) b
       unfolding ranksLeft
       ranks-kept-1 b m k h = rw (refuses-8 m k (few-masks m k h))
 
-      pub masks-kept-2 : (b : List ℕ) (m k : ℕ) → k < v .nodes → b ≡ masksAfter s (solveAnswer s m k) b
-      unfolding masksAfter
+      pub masks-kept-2 : (b : List ℕ) (m k : ℕ) → k < v .nodes → b ≡ masksLeft s (solveAnswer s m k) b
+      unfolding masksLeft
       masks-kept-2 b m k h = rw (refuses-8 m k (few-ranks m k h))
 
       pub ranks-kept-2 : (b : List ℕ) (m k : ℕ) → k < v .nodes → b ≡ ranksLeft s (solveAnswer s m k) b
@@ -282,8 +283,8 @@ module _ (s : List ℕ) (rd : Reading) (e : reading.meaning rd ≡ readAnswer s)
           answer-lost w =
               ap (λ x. accepted (record { verdict = x; layout = l })) (rw w at (filled-read .stopped .verdict)) ∙ sym solved
 
-          masks-filled : m′ ≡ masksAfter s (solveAnswer s (length m) (length k)) m
-          unfolding masksAfter
+          masks-filled : m′ ≡ masksLeft s (solveAnswer s (length m) (length k)) m
+          unfolding masksLeft
           masks-filled = rw (solved, ← stop-is) (filled-read .masks)
 
           ranks-filled : k′ ≡ ranksLeft s (solveAnswer s (length m) (length k)) k
@@ -294,7 +295,7 @@ module _ (s : List ℕ) (rd : Reading) (e : reading.meaning rd ≡ readAnswer s)
           abbrev Promised : Verdict → Type 0
           Promised x =
               (accepted (record { verdict = x; layout = l }) ≡ solveAnswer s (length m) (length k))
-              × ((m′ ≡ masksAfter s (solveAnswer s (length m) (length k)) m)
+              × ((m′ ≡ masksLeft s (solveAnswer s (length m) (length k)) m)
               × (k′ ≡ ranksLeft s (solveAnswer s (length m) (length k)) k))
 
           pub solves-won : r .wins ≡ true → Promised wins

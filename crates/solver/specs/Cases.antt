@@ -6,21 +6,21 @@ use lib.ListN.{length, replicate}
 use Rattle.theory.specs.Answer.{Answer, refused, accepted, onAccepted}
 use Rattle.theory.specs.Delay.{Verdict, wins, losing}
 use Rattle.sheet.specs.Cases.{sheetWith}
-use Rattle.solver.specs.Solving.{solveAnswer, masksAfter, ranksLeft}
+use Rattle.solver.specs.Solving.{solveAnswer, masksLeft, ranksLeft}
 
 -- what solving says and leaves
-pub record Outcome : Type 0 where
+pub record Effect : Type 0 where
   pub answer : Answer Verdict
   pub masks : List ℕ
   pub ranks : List ℕ
 
 -- buffers of so many entries
-unfoldable pub outcome : List ℕ → ℕ → ℕ → Outcome
-outcome s masks ranks =
+unfoldable pub effect : List ℕ → ℕ → ℕ → Effect
+effect s masks ranks =
     let r = solveAnswer s masks ranks in
     record {
       answer = onAccepted r (λ a. accepted (a .verdict));
-      masks = masksAfter s r (replicate masks 9);
+      masks = masksLeft s r (replicate masks 9);
       ranks = ranksLeft s r (replicate ranks 9);
     }
 
@@ -28,7 +28,7 @@ pub record Case : Type 0 where
   pub sheet : List ℕ
   pub masks-room : ℕ
   pub ranks-room : ℕ
-  pub outcome : Outcome
+  pub effect : Effect
 
 -- solved, with one entry beyond those owed in the mask buffer and two in the rank buffer
 unfoldable pub solved : List ℕ → Verdict → List ℕ → List ℕ → Case
@@ -37,7 +37,7 @@ solved s v masks ranks =
       sheet = s;
       masks-room = length masks + 1;
       ranks-room = length ranks + 2;
-      outcome = record { answer = accepted v; masks = masks ++ (9 ∷ []); ranks = ranks ++ (9 ∷ 9 ∷ []) };
+      effect = record { answer = accepted v; masks = masks ++ (9 ∷ []); ranks = ranks ++ (9 ∷ 9 ∷ []) };
     }
 
 unfoldable pub unsolved : List ℕ → ℕ → ℕ → ℕ → Case
@@ -46,7 +46,7 @@ unsolved s masks ranks n =
       sheet = s;
       masks-room = masks;
       ranks-room = ranks;
-      outcome = record { answer = refused n; masks = replicate masks 9; ranks = replicate ranks 9 };
+      effect = record { answer = refused n; masks = replicate masks 9; ranks = replicate ranks 9 };
     }
 
 -- the guess yard, at a lag
@@ -63,7 +63,7 @@ cases =
       sheet = guess 2;
       masks-room = 8;
       ranks-room = 8;
-      outcome =
+      effect =
           record {
             answer = accepted (losing 1);
             masks = 0 ∷ 0 ∷ 0 ∷ 0 ∷ 9 ∷ 9 ∷ 9 ∷ 9 ∷ [];

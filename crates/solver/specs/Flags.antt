@@ -9,11 +9,11 @@ use Rattle.theory.specs.Answer.{Answer, refused, accepted}
 use Rattle.theory.specs.Game.{Game}
 use Rattle.theory.specs.Delay.{initialWords, goodWith}
 use Rattle.sheet.specs.Reading.{readAnswer, delayOf}
-use Rattle.sheet.specs.Meant.{gameOf}
+use Rattle.sheet.specs.SheetGame.{gameOf}
 use Rattle.sheet.specs.declared.reading.Layout.{Layout}
 use Rattle.walk.specs.declared.level.Level.{Level}
 use Rattle.solver.specs.Kept.{goodIn}
-use Rattle.solver.specs.Solving.{over}
+use Rattle.theory.specs.Buffer.{over}
 
 -- "1 if good, else 0", by any ranks
 unfoldable pub flagWith : Game → ℕ → List ℕ → ℕ → ℕ

@@ -36,7 +36,7 @@ levelAt positions start actions delay =
     record {
       start = start;
       actions = actions;
-      power = actions ^ (delay / 2);
+      words = actions ^ (delay / 2);
       odd = odd delay;
       nodes = nodesOf positions actions delay;
     }

@@ -3,9 +3,9 @@
 use Prim.Native.Nat.{ℕ, _/_, _≤_}
 use mathlib.Core.Path.{_≡_}
 use mathlib.Core.Bool.{Bool, true, false}
-use mathlib.Core.List.{List, _++_}
+use mathlib.Core.List.{List}
 use lib.Dec.{leb}
-use lib.ListN.{length, drop}
+use lib.ListN.{length}
 use Rattle.theory.specs.Fold.{both}
 use Rattle.theory.specs.Answer.{Answer, refused, accepted, check, onAccepted}
 use Rattle.theory.specs.Game.{Game, Legal}
@@ -14,14 +14,15 @@ use Rattle.theory.specs.Delay.{Verdict, wins, losing, arena, answer}
 use Rattle.sheet.specs.Reading.{readAnswer, delayOf}
 use Rattle.sheet.specs.Limits.{mostMoves}
 use Rattle.sheet.specs.Checks.{nodesOf}
-use Rattle.sheet.specs.Meant.{gameOf, gridOf}
+use Rattle.sheet.specs.SheetGame.{gameOf, gridOf}
 use Rattle.sheet.specs.declared.reading.Layout.{Layout}
 use Rattle.walk.specs.View.{viewOf}
-use Rattle.rounds.specs.Strikes.{AtMost}
+use Rattle.rounds.specs.Falling.{AtMost}
 use Rattle.solver.specs.Levels.{firstsOf, Room}
 use Rattle.solver.specs.declared.delays.Stop.{Stop}
 use Rattle.solver.specs.declared.solve.Solution.{Solution}
 use Rattle.solver.specs.declared.solve.Solution.the-variants.{Winning, Losing, Refused}
+use Rattle.theory.specs.Buffer.{over}
 
 -- "winning", or "losing m", with what the accepted reading carried
 pub record Solved : Type 0 where
@@ -43,24 +44,30 @@ unfoldable pub solvedDelay : ℕ → Verdict → ℕ
 solvedDelay d wins = d
 solvedDelay d (losing m) = m
 
--- "entries beyond are untouched"
-unfoldable pub over : List ℕ → List ℕ → List ℕ
-over entries buffer = entries ++ drop (length entries) buffer
-
 -- what the buffers hold after an answer: a refusal "alters no lent area"
-unfoldable pub masksAfter : List ℕ → Answer Solved → List ℕ → List ℕ
-masksAfter s (refused n) buffer = buffer
-masksAfter s (accepted a) buffer = over (masks (arena (gameOf s) (solvedDelay (delayOf s) (a .verdict)))) buffer
+unfoldable pub masksLeft : List ℕ → Answer Solved → List ℕ → List ℕ
+masksLeft s (refused n) buffer = buffer
+masksLeft s (accepted a) buffer = over (masks (arena (gameOf s) (solvedDelay (delayOf s) (a .verdict)))) buffer
 
 unfoldable pub ranksLeft : List ℕ → Answer Solved → List ℕ → List ℕ
 ranksLeft s (refused n) buffer = buffer
 ranksLeft s (accepted a) buffer = over (finalRanks (arena (gameOf s) (solvedDelay (delayOf s) (a .verdict)))) buffer
 
+-- the answer, and what each buffer holds after it, from the buffers as they were lent
+abbrev pub solving : List ℕ → List ℕ → List ℕ → Answer Solved
+solving s masks ranks = solveAnswer s (length masks) (length ranks)
+
+abbrev pub masksSolved : List ℕ → List ℕ → List ℕ → List ℕ
+masksSolved s masks ranks = masksLeft s (solving s masks ranks) masks
+
+abbrev pub ranksSolved : List ℕ → List ℕ → List ℕ → List ℕ
+ranksSolved s masks ranks = ranksLeft s (solving s masks ranks) ranks
+
 -- document 01's number and values for every case of the code's answer
-abbrev pub meaning : Solution → Answer Solved
-meaning (Winning l) = accepted (record { verdict = wins; layout = l })
-meaning (Losing m l) = accepted (record { verdict = losing m; layout = l })
-meaning (Refused n) = refused n
+abbrev pub solutionMeans : Solution → Answer Solved
+solutionMeans (Winning l) = accepted (record { verdict = wins; layout = l })
+solutionMeans (Losing m l) = accepted (record { verdict = losing m; layout = l })
+solutionMeans (Refused n) = refused n
 
 unfoldable pub verdictBy : Bool → ℕ → Verdict
 verdictBy true m = wins
@@ -86,6 +93,6 @@ pub record Fillable (p c u : List ℕ) (start actions delay : ℕ) (masks ranks 
   pub ranks-room : nodesOf (length p) actions delay ≤ length ranks
 
 -- the answer, and both buffers filled for the delay where the search stopped
-pub record Filled (G : Game) (d : ℕ) (masksBefore ranksBefore masksAfter ranksAfter : List ℕ) (r : Stop) : Type 0 where
+pub record Filled (G : Game) (d : ℕ) (masksBefore ranksBefore masksLeft ranksAfter : List ℕ) (r : Stop) : Type 0 where
   pub stopped : Stopped G d ranksBefore ranksAfter r
-  pub masks : masksAfter ≡ over (masks (arena G (r .delay))) masksBefore
+  pub masks : masksLeft ≡ over (masks (arena G (r .delay))) masksBefore

@@ -13,7 +13,7 @@ pub(crate) fn level_at(positions: usize, start: u8, actions: u8, delay: u8) -> L
     Level {
         start: wide(start),
         actions: wide(actions),
-        power: words,
+        words,
         odd: delay % 2 == 1,
         nodes: positions * words,
     }

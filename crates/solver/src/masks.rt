@@ -8,7 +8,7 @@ ghost use lib.ListN.{length};
 ghost use Rattle.theory.specs.Rounds.{maskAt, masksBy};
 ghost use Rattle.walk.specs.View.{arenaOf};
 ghost use Rattle.walk.specs.Nodes.{Sized};
-ghost use Rattle.rounds.specs.Strikes.{AtMost};
+ghost use Rattle.rounds.specs.Falling.{AtMost};
 ghost use Rattle.solver.specs.Kept.{allowedIn};
 
 // The bits of the actions that are not spoilt at node k, which is kept.

@@ -13,8 +13,7 @@ use sheet::reading::refusal_number;
 use sheet::refusal::Refusal;
 use sheet::refusal::number;
 ghost use mathlib.Core.Path.{_≡_};
-ghost use lib.ListN.{length};
-ghost use Rattle.solver.specs.Solving.{bodiesGame, Fillable, Filled, solveAnswer, meaning, masksAfter, ranksLeft};
+ghost use Rattle.solver.specs.Solving.{bodiesGame, Fillable, Filled, solutionMeans, solving, masksSolved, ranksSolved};
 
 // Losing: the least delay at which no strategy wins.
 pub enum Solution {
@@ -56,9 +55,9 @@ fn fill(
 }
 
 pub fn solve(sheet: &[u8], masks: &mut [u8], ranks: &mut [u16]) -> Solution
-    ensures answer { λ r. ⌜ meaning r ≡ solveAnswer (now (sheet .entry)) (length (now (masks .entry))) (length (now (ranks .entry))) ⌝ }
-    ensures masks { λ r. ⌜ now (masks .exit) ≡ masksAfter (now (sheet .entry)) (solveAnswer (now (sheet .entry)) (length (now (masks .entry))) (length (now (ranks .entry)))) (now (masks .entry)) ⌝ }
-    ensures ranks { λ r. ⌜ now (ranks .exit) ≡ ranksLeft (now (sheet .entry)) (solveAnswer (now (sheet .entry)) (length (now (masks .entry))) (length (now (ranks .entry)))) (now (ranks .entry)) ⌝ }
+    ensures answer { λ r. ⌜ solutionMeans r ≡ solving (now (sheet .entry)) (now (masks .entry)) (now (ranks .entry)) ⌝ }
+    ensures masks { λ r. ⌜ now (masks .exit) ≡ masksSolved (now (sheet .entry)) (now (masks .entry)) (now (ranks .entry)) ⌝ }
+    ensures ranks { λ r. ⌜ now (ranks .exit) ≡ ranksSolved (now (sheet .entry)) (now (masks .entry)) (now (ranks .entry)) ⌝ }
 {
     let reading = read(sheet);
     let Reading::Accepted(l) = reading else {

@@ -21,7 +21,7 @@ pub(crate) fn kept(p: &[u8], level: Level, ranks: &[u16], k: usize) -> bool
     requires { ⌜ Sized (length (now p)) level ⌝ }
     ensures { λ r. ⌜ r ≡ keptIn (now (p .entry)) level (now (ranks .entry)) k ⌝ }
 {
-    if !on_right(p, level.odd, k / level.power) {
+    if !on_right(p, level.odd, k / level.words) {
         return false;
     }
     if ranks.len() <= k {
@@ -31,13 +31,13 @@ pub(crate) fn kept(p: &[u8], level: Level, ranks: &[u16], k: usize) -> bool
 }
 
 pub(crate) fn first_words(level: Level) -> usize
-    requires { ⌜ (level .power < 65536) × (level .actions < 256) ⌝ }
+    requires { ⌜ (level .words < 65536) × (level .actions < 256) ⌝ }
     ensures { λ r. ⌜ r ≡ firstWords level ⌝ }
 {
     if level.odd {
-        return level.power * level.actions;
+        return level.words * level.actions;
     }
-    level.power
+    level.words
 }
 
 pub(crate) fn good(p: &[u8], grid: &[[u16; 8]; 256], level: Level, ranks: &[u16], v: usize) -> bool
@@ -45,16 +45,16 @@ pub(crate) fn good(p: &[u8], grid: &[[u16; 8]; 256], level: Level, ranks: &[u16]
     ensures { λ r. ⌜ r ≡ goodIn (now (p .entry)) (now (grid .entry)) level (now (ranks .entry)) v ⌝ }
 {
     if !level.odd {
-        return kept(p, level, ranks, level.start * level.power + v);
+        return kept(p, level, ranks, level.start * level.words + v);
     }
     if !safe_at(p, level.start) {
         return false;
     }
-    let reached = target(grid, level.start, v / level.power);
+    let reached = target(grid, level.start, v / level.words);
     if reached == ABSENT {
         return false;
     }
-    kept(p, level, ranks, reached * level.power + v % level.power)
+    kept(p, level, ranks, reached * level.words + v % level.words)
 }
 
 pub(crate) fn some_good(p: &[u8], grid: &[[u16; 8]; 256], level: Level, ranks: &[u16]) -> bool

@@ -13,7 +13,7 @@ use Rattle.theory.specs.Fold.{both, either, allBelow, tabulate}
 use Rattle.theory.proofs.Fold.{both-false, both-true, all-none, all-done, both-none, both-second, failed, passed, all-next, all-stopped}
 use Rattle.table.specs.TableSheet.{says}
 use Rattle.table.specs.declared.reading.TableLayout.{TableLayout}
-use Rattle.state.specs.State.{million, unknown, opened, agrees, heldAt, withinAt, heldOk, windowOk, stateOk, pushed, shiftedAt, shifted}
+use Rattle.state.specs.State.{lastTurn, unknown, opened, agrees, heldAt, withinAt, heldOk, windowOk, stateOk, pushed, shiftedAt, shifted}
 use Rattle.state.specs.declared.state.Slot.{Slot}
 use Rattle.state.specs.declared.state.State.{State}
 
@@ -95,11 +95,11 @@ pub ruleset check-laws = (needs, all-none, all-next, loop-stopped, loop-done, he
 -- check 20; v is the delay as a number, n and m how many actions and slots are looked at, r and q the tests' results
 
 module _ (l : TableLayout) (s : State) where
-  pub turn-over : million < s .turn → false ≡ stateOk (says l [] []) s
+  pub turn-over : lastTurn < s .turn → false ≡ stateOk (says l [] []) s
   unfolding stateOk
-  turn-over h = sym (both-none _ _ (lt-leb (s .turn) million h))
+  turn-over h = sym (both-none _ _ (lt-leb (s .turn) lastTurn h))
 
-  module _ (v n : ℕ) (r : Bool) (few : s .turn ≤ million) (ev : v ≡ l .delay) (en : n ≡ min (v / 2) (s .turn))
+  module _ (v n : ℕ) (r : Bool) (few : s .turn ≤ lastTurn) (ev : v ≡ l .delay) (en : n ≡ min (v / 2) (s .turn))
       (er : r ≡ allBelow (heldAt (l .actions) (s .last)) n) where
     held-same : r ≡ heldOk (says l [] []) s
     unfolding heldOk
@@ -116,6 +116,6 @@ module _ (l : TableLayout) (s : State) where
         eq
         ∙ ap (allBelow (withinAt (l .highest) (s .window)))
         (add-one m ∙ ap suc (em ∙ ap (λ d. min d (2 * s .turn)) ev))
-        ∙ sym (both-second _ _ (le-leb (s .turn) million few) ∙ both-second _ _ (passed held-same e))
+        ∙ sym (both-second _ _ (le-leb (s .turn) lastTurn few) ∙ both-second _ _ (passed held-same e))
 
 pub ruleset state-laws = (needs, turn-over, held-bad, state-end)

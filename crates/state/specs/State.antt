@@ -10,8 +10,8 @@ use Rattle.state.specs.declared.state.Slot.{Slot}
 use Rattle.state.specs.declared.state.State.{State}
 
 -- the last turn's number: "15: turn is 1,000,000"
-abbrev pub million : ℕ
-million = 1000000
+abbrev pub lastTurn : ℕ
+lastTurn = 1000000
 
 -- the slots of a window at the largest delay: indices 2i - 6 to 2i
 abbrev pub slots : ℕ
@@ -54,7 +54,7 @@ windowOk x s = allBelow (withinAt (x .highest) (s .window)) (suc (min (x .delay)
 
 -- what refusal 20 leaves; "turn over 1,000,000" is the first of its reasons
 unfoldable pub stateOk : TableSheet → State → Bool
-stateOk x s = both (leb (s .turn) million) (both (heldOk x s) (windowOk x s))
+stateOk x s = both (leb (s .turn) lastTurn) (both (heldOk x s) (windowOk x s))
 
 -- the state after an accepted report of position p at index k. A repeat "changes nothing"
 abbrev pub observed : State → ℕ → ℕ → State
@@ -72,5 +72,5 @@ unfoldable pub shifted : ℕ → List Slot → List Slot
 shifted d window = tabulate (shiftedAt d window) 0 slots
 
 -- the state after action a was given under delay d: "the turn goes up by one"
-abbrev pub gaveState : ℕ → State → ℕ → State
-gaveState d s a = record { turn = suc (s .turn); last = pushed a (s .last); window = shifted d (s .window) }
+abbrev pub actedState : ℕ → State → ℕ → State
+actedState d s a = record { turn = suc (s .turn); last = pushed a (s .last); window = shifted d (s .window) }

@@ -23,7 +23,7 @@ use Rattle.sheet.specs.Checks.{powerTo, nodesOf}
 use Rattle.sheet.specs.Refusals.{numberOf}
 use Rattle.sheet.specs.declared.form.Place.{Place}
 use Rattle.sheet.specs.declared.refusal.Refusal.{Refusal}
-use Rattle.table.specs.TableSheet.{TableSheet, tableLetters, tableLayout, says, tableAt, decode, tableNodes, numbersOk, belowAt, bytesBelow, bodiesOk, shapeAnswer, someFlagged, tableAnswer, masksIn, masksOf, meaning}
+use Rattle.table.specs.TableSheet.{TableSheet, tableLetters, tableLayout, says, tableAt, decode, tableNodes, numbersOk, belowAt, bytesBelow, bodiesOk, shapeAnswer, someFlagged, tableAnswer, masksIn, masksOf, tableReadingMeans}
 use Rattle.table.specs.declared.reading.TableLayout.{TableLayout}
 use Rattle.table.specs.declared.reading.TableReading.{TableReading}
 use Rattle.table.specs.declared.reading.TableReading.the-variants.{Accepted, Refused}
@@ -202,7 +202,7 @@ module _ (s : List ℕ) (r₁ : Bool) (e₁ : r₁ ≡ contentsOk 2 tableLetters
       unfolding shapeAnswer check
       refuses-bodies x = rw (passed e₁ t₁, passed two t₂, failed three x)
 
-      pub shape-read : (a : Answer TableSheet) → not r₃ ≡ false → a ≡ meaning s (Accepted l) → a ≡ shapeAnswer s
+      pub shape-read : (a : Answer TableSheet) → not r₃ ≡ false → a ≡ tableReadingMeans s (Accepted l) → a ≡ shapeAnswer s
       unfolding shapeAnswer
       shape-read a x e =
           e
@@ -247,15 +247,15 @@ some-any : (w a b : List ℕ) → someFlagged (record { flags = w; masks = a }) 
 unfolding someFlagged flagged
 some-any w a b = refl
 
-module _ (s : List ℕ) (y : TableReading) (ey : meaning s y ≡ shapeAnswer s) where
-  pub shape-refused : (x : Refusal) → y ≡ Refused x → meaning s y ≡ tableAnswer s
+module _ (s : List ℕ) (y : TableReading) (ey : tableReadingMeans s y ≡ shapeAnswer s) where
+  pub shape-refused : (x : Refusal) → y ≡ Refused x → tableReadingMeans s y ≡ tableAnswer s
   unfolding tableAnswer onAccepted
-  shape-refused x e = let f : shapeAnswer s ≡ refused (numberOf x) = sym ey ∙ ap (meaning s) e in ap (meaning s) e ∙ sym (rw f refl)
+  shape-refused x e = let f : shapeAnswer s ≡ refused (numberOf x) = sym ey ∙ ap (tableReadingMeans s) e in ap (tableReadingMeans s) e ∙ sym (rw f refl)
 
   module _ (l : TableLayout) (el : y ≡ Accepted l) (w : List ℕ) (ew : w ≡ partAt s (l .flags)) (r : Bool)
       (er : r ≡ someFlagged (record { flags = w; masks = [] })) where
     shape : shapeAnswer s ≡ accepted (tableAt s l)
-    shape = sym ey ∙ ap (meaning s) el
+    shape = sym ey ∙ ap (tableReadingMeans s) el
 
     some : r ≡ someFlagged (tableAt s l .table)
     some = er ∙ ap (λ b. someFlagged (record { flags = b; masks = [] })) ew ∙ some-any _ _ _
@@ -272,13 +272,13 @@ pub ruleset reads = (needs, shape-refused, refuses-12, table-read)
 
 -- the part that holds the masks
 
-module _ (s : List ℕ) (y : TableReading) (ey : meaning s y ≡ tableAnswer s) where
+module _ (s : List ℕ) (y : TableReading) (ey : tableReadingMeans s y ≡ tableAnswer s) where
   pub masks-none : (x : Refusal) → y ≡ Refused x → [] ≡ masksOf s
   unfolding masksOf masksIn
-  masks-none x e = rw (sym ey ∙ ap (meaning s) e)
+  masks-none x e = rw (sym ey ∙ ap (tableReadingMeans s) e)
 
   pub masks-some : (l : TableLayout) (t : List ℕ) → y ≡ Accepted l → t ≡ bodyOf 2 s 2 → t ≡ masksOf s
   unfolding masksOf masksIn
-  masks-some l t e f = rw (sym ey ∙ ap (meaning s) e) f
+  masks-some l t e f = rw (sym ey ∙ ap (tableReadingMeans s) e) f
 
 pub ruleset masks-laws = (needs, masks-none, masks-some)

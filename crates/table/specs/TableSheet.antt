@@ -108,6 +108,6 @@ unfoldable pub masksOf : List ℕ → List ℕ
 masksOf s = masksIn s (tableAnswer s)
 
 -- document 01's number and values for every case of the code's answer, the sheet being s
-abbrev pub meaning : List ℕ → TableReading → Answer TableSheet
-meaning s (Accepted l) = accepted (tableAt s l)
-meaning s (Refused r) = refused (numberOf r)
+abbrev pub tableReadingMeans : List ℕ → TableReading → Answer TableSheet
+tableReadingMeans s (Accepted l) = accepted (tableAt s l)
+tableReadingMeans s (Refused r) = refused (numberOf r)

@@ -17,7 +17,7 @@ ghost use mathlib.Core.Path.{_≡_};
 ghost use mathlib.Core.List.{[]};
 ghost use Prim.Native.Nat.{_+_, _≤_};
 ghost use Rattle.sheet.specs.Limits.{mostActions, mostDelay};
-ghost use Rattle.table.specs.TableSheet.{tableLayout, says, numbersOk, bytesBelow, bodiesOk, shapeAnswer, someFlagged, tableAnswer, masksOf, meaning};
+ghost use Rattle.table.specs.TableSheet.{tableLayout, says, numbersOk, bytesBelow, bodiesOk, shapeAnswer, someFlagged, tableAnswer, masksOf, tableReadingMeans};
 
 // What an accepted reading carries: the start bytes and the places of the W and T bodies.
 pub struct TableLayout {
@@ -111,7 +111,7 @@ fn bodies_ok(l: TableLayout, w: &[u8], t: &[u8]) -> bool
 
 // Checks 10 and 11. Reading ends here where first words don't matter.
 pub fn read_shape(sheet: &[u8]) -> TableReading
-    ensures { λ r. ⌜ meaning (now (sheet .entry)) r ≡ shapeAnswer (now (sheet .entry)) ⌝ }
+    ensures { λ r. ⌜ tableReadingMeans (now (sheet .entry)) r ≡ shapeAnswer (now (sheet .entry)) ⌝ }
 {
     if !contents_ok(sheet, b"SWT") {
         return TableReading::Refused(Refusal::TableContents);
@@ -145,7 +145,7 @@ fn some_flagged(w: &[u8]) -> bool
 
 // Checks 10 and 11, then 12.
 pub fn read(sheet: &[u8]) -> TableReading
-    ensures { λ r. ⌜ meaning (now (sheet .entry)) r ≡ tableAnswer (now (sheet .entry)) ⌝ }
+    ensures { λ r. ⌜ tableReadingMeans (now (sheet .entry)) r ≡ tableAnswer (now (sheet .entry)) ⌝ }
 {
     let reading = read_shape(sheet);
     let TableReading::Accepted(l) = reading else {

@@ -5,10 +5,10 @@ use Rattle.theory.specs.Words.{digit}
 use Rattle.theory.specs.Table.{bit}
 use Rattle.text.specs.Ascii.{ascii}
 use Rattle.text.specs.Page.{textsFrom}
-use Rattle.text.specs.Numbers.{glyph, decimalBy, decimalOf, bytesOf, shortAt, shortsText}
+use Rattle.text.specs.Numbers.{glyph, decimalBy, decimalOf, shortAt, shortsText}
+use Rattle.theory.specs.Bytes.{bytesOf}
 use Rattle.text.specs.Fields.{digitText, wordText, actionText, setText, fieldText, positionText, nodeText}
-use Rattle.text.specs.Lines.{fieldLine, losingLine, refusedLine, winningLine, headLine, startLine, allowLine, rankLine}
-use Rattle.text.specs.Lines.{startAt, startLines, allowAt, allowLines, rankAt, rankLines}
+use Rattle.text.specs.Lines.{fieldLine, losingLine, refusedLine, winningLine, headLine, startLine, allowLine, rankLine, startAt, startLines, allowAt, allowLines, rankAt, rankLines}
 
 -- the guess yard at lag 1
 guess : headLine 1 4 2 ++ (losingLine 1 ++ rankLines 2 0 (0 ∷ 0 ∷ 2 ∷ 1 ∷ []))

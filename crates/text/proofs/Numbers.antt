@@ -11,7 +11,8 @@ use borrow.Author.Needs.{needs}
 use borrow.Author.Tests.{lt-ltb, le-ltb}
 use Rattle.theory.proofs.Fold.{below?}
 use Rattle.text.specs.Page.{Page, puts}
-use Rattle.text.specs.Numbers.{glyph, decimalBy, decimalOf, bytesOf, shortAt, shortsText}
+use Rattle.text.specs.Numbers.{glyph, decimalBy, decimalOf, shortAt, shortsText}
+use Rattle.theory.specs.Bytes.{bytesOf}
 use Rattle.text.proofs.Page.{after, length-all}
 
 pub glyph-digit : (d : ℕ) → d < 10 → 48 + d ≡ glyph d

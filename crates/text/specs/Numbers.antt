@@ -5,6 +5,7 @@ use mathlib.Core.List.{List, [], _∷_, _++_}
 use lib.Dec.{ltb}
 use lib.ListN.{length, getD}
 use Rattle.text.specs.Page.{textsFrom}
+use Rattle.theory.specs.Bytes.{bytesOf}
 
 -- the glyph of a digit: 0 to 9, then a to v; a question mark stands for what has none
 unfoldable pub glyph : ℕ → ℕ
@@ -17,11 +18,6 @@ decimalBy (suc fuel) n = let more = decimalBy fuel (n / 10) ++ (glyph (n % 10) �
 
 unfoldable pub decimalOf : ℕ → List ℕ
 decimalOf n = decimalBy (suc n) n
-
--- the lowest w bytes of n, low byte first
-unfoldable pub bytesOf : ℕ → ℕ → List ℕ
-bytesOf zero n = []
-bytesOf (suc w) n = n % 256 ∷ bytesOf w (n / 256)
 
 -- every entry in two bytes
 unfoldable pub shortAt : List ℕ → ℕ → List ℕ

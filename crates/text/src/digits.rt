@@ -4,7 +4,7 @@ ghost use mathlib.Core.Path.{_≡_};
 ghost use mathlib.Core.List.{_∷_, []};
 ghost use Prim.Native.Nat.{_/_, _%_, _^_, _<_};
 ghost use Rattle.theory.specs.Table.{bit};
-ghost use Rattle.text.specs.Page.{page, puts};
+ghost use Rattle.text.specs.Page.{Writes};
 ghost use Rattle.text.specs.Numbers.{glyph, decimalOf};
 ghost use Rattle.text.specs.Fields.{digitText, wordText, actionText, setText};
 
@@ -21,13 +21,13 @@ fn glyph_of(d: usize) -> u8
 }
 
 fn put_glyph(out: &mut [u8], at: usize, d: usize) -> usize
-    ensures { λ r. ⌜ page (now (out .exit)) r ≡ puts (page (now (out .entry)) at) (glyph d ∷ []) ⌝ }
+    ensures { λ r. ⌜ Writes (now (out .entry)) at (glyph d ∷ []) (now (out .exit)) r ⌝ }
 {
     put_byte(out, at, glyph_of(d))
 }
 
 pub fn put_number(out: &mut [u8], at: usize, n: usize) -> usize
-    ensures { λ r. ⌜ page (now (out .exit)) r ≡ puts (page (now (out .entry)) at) (decimalOf n) ⌝ }
+    ensures { λ r. ⌜ Writes (now (out .entry)) at (decimalOf n) (now (out .exit)) r ⌝ }
 {
     if n < 10 {
         return put_glyph(out, at, n);
@@ -76,7 +76,7 @@ fn put_digit(
     i: usize,
 ) -> usize
     requires { ⌜ i < count ⌝ }
-    ensures { λ r. ⌜ page (now (out .exit)) r ≡ puts (page (now (out .entry)) at) (digitText actions count word i) ⌝ }
+    ensures { λ r. ⌜ Writes (now (out .entry)) at (digitText actions count word i) (now (out .exit)) r ⌝ }
 {
     let younger = count - 1 - i;
     let shown = without_last(word, actions, younger);
@@ -85,7 +85,7 @@ fn put_digit(
 
 // The word of `count` actions, oldest first.
 pub fn put_word(out: &mut [u8], at: usize, actions: usize, count: usize, word: usize) -> usize
-    ensures { λ r. ⌜ page (now (out .exit)) r ≡ puts (page (now (out .entry)) at) (wordText actions count word) ⌝ }
+    ensures { λ r. ⌜ Writes (now (out .entry)) at (wordText actions count word) (now (out .exit)) r ⌝ }
 {
     if count == 0 {
         return put_byte(out, at, b'-');
@@ -106,7 +106,7 @@ fn has_action(mask: usize, c: usize) -> bool
 }
 
 fn put_action(out: &mut [u8], at: usize, mask: usize, c: usize) -> usize
-    ensures { λ r. ⌜ page (now (out .exit)) r ≡ puts (page (now (out .entry)) at) (actionText mask c) ⌝ }
+    ensures { λ r. ⌜ Writes (now (out .entry)) at (actionText mask c) (now (out .exit)) r ⌝ }
 {
     if has_action(mask, c) {
         return put_glyph(out, at, c);
@@ -116,7 +116,7 @@ fn put_action(out: &mut [u8], at: usize, mask: usize, c: usize) -> usize
 
 // The actions of a mask, rising.
 pub fn put_set(out: &mut [u8], at: usize, actions: usize, mask: usize) -> usize
-    ensures { λ r. ⌜ page (now (out .exit)) r ≡ puts (page (now (out .entry)) at) (setText actions mask) ⌝ }
+    ensures { λ r. ⌜ Writes (now (out .entry)) at (setText actions mask) (now (out .exit)) r ⌝ }
 {
     let mut to = at;
     let mut c: usize = 0;

@@ -9,45 +9,45 @@ use super::digits::without_last;
 ghost use mathlib.Core.Path.{_≡_};
 ghost use Prim.Native.Nat.{_<_};
 ghost use lib.ListN.{length};
-ghost use Rattle.text.specs.Page.{page, puts};
+ghost use Rattle.text.specs.Page.{Writes};
 ghost use Rattle.text.specs.Fields.{fieldText, positionText, nodeText};
 ghost use Rattle.text.specs.Lines.{fieldLine, refusedLine, losingLine, winningLine, headLine, startLine, allowLine, rankLine};
 ghost use Rattle.text.specs.Lines.{startAt, startLines, allowAt, allowLines, rankAt, rankLines};
 
 fn put_field(out: &mut [u8], at: usize, name: &[u8], n: usize) -> usize
-    ensures { λ r. ⌜ page (now (out .exit)) r ≡ puts (page (now (out .entry)) at) (fieldText (now (name .entry)) n) ⌝ }
+    ensures { λ r. ⌜ Writes (now (out .entry)) at (fieldText (now (name .entry)) n) (now (out .exit)) r ⌝ }
 {
     let to = put_text(out, at, name);
     put_number(out, to, n)
 }
 
 fn put_field_line(out: &mut [u8], at: usize, name: &[u8], n: usize) -> usize
-    ensures { λ r. ⌜ page (now (out .exit)) r ≡ puts (page (now (out .entry)) at) (fieldLine (now (name .entry)) n) ⌝ }
+    ensures { λ r. ⌜ Writes (now (out .entry)) at (fieldLine (now (name .entry)) n) (now (out .exit)) r ⌝ }
 {
     let to = put_field(out, at, name, n);
     put_byte(out, to, b'\n')
 }
 
 pub fn put_refused(out: &mut [u8], at: usize, number: usize) -> usize
-    ensures { λ r. ⌜ page (now (out .exit)) r ≡ puts (page (now (out .entry)) at) (refusedLine number) ⌝ }
+    ensures { λ r. ⌜ Writes (now (out .entry)) at (refusedLine number) (now (out .exit)) r ⌝ }
 {
     put_field_line(out, at, b"refused ", number)
 }
 
 pub fn put_losing(out: &mut [u8], at: usize, delay: usize) -> usize
-    ensures { λ r. ⌜ page (now (out .exit)) r ≡ puts (page (now (out .entry)) at) (losingLine delay) ⌝ }
+    ensures { λ r. ⌜ Writes (now (out .entry)) at (losingLine delay) (now (out .exit)) r ⌝ }
 {
     put_field_line(out, at, b"losing ", delay)
 }
 
 pub fn put_winning(out: &mut [u8], at: usize) -> usize
-    ensures { λ r. ⌜ page (now (out .exit)) r ≡ puts (page (now (out .entry)) at) winningLine ⌝ }
+    ensures { λ r. ⌜ Writes (now (out .entry)) at winningLine (now (out .exit)) r ⌝ }
 {
     put_text(out, at, b"winning\n")
 }
 
 pub fn put_head(out: &mut [u8], at: usize, delay: usize, positions: usize, actions: usize) -> usize
-    ensures { λ r. ⌜ page (now (out .exit)) r ≡ puts (page (now (out .entry)) at) (headLine delay positions actions) ⌝ }
+    ensures { λ r. ⌜ Writes (now (out .entry)) at (headLine delay positions actions) (now (out .exit)) r ⌝ }
 {
     let p = put_field(out, at, b"lag ", delay);
     let c = put_field(out, p, b" positions ", positions);
@@ -56,7 +56,7 @@ pub fn put_head(out: &mut [u8], at: usize, delay: usize, positions: usize, actio
 
 // The word of `count` actions.
 pub fn put_start(out: &mut [u8], at: usize, actions: usize, count: usize, word: usize) -> usize
-    ensures { λ r. ⌜ page (now (out .exit)) r ≡ puts (page (now (out .entry)) at) (startLine actions count word) ⌝ }
+    ensures { λ r. ⌜ Writes (now (out .entry)) at (startLine actions count word) (now (out .exit)) r ⌝ }
 {
     let w = put_text(out, at, b"start ");
     let end = put_word(out, w, actions, count, word);
@@ -64,7 +64,7 @@ pub fn put_start(out: &mut [u8], at: usize, actions: usize, count: usize, word: 
 }
 
 fn put_position(out: &mut [u8], at: usize, actions: usize, count: usize, node: usize) -> usize
-    ensures { λ r. ⌜ page (now (out .exit)) r ≡ puts (page (now (out .entry)) at) (positionText actions count node) ⌝ }
+    ensures { λ r. ⌜ Writes (now (out .entry)) at (positionText actions count node) (now (out .exit)) r ⌝ }
 {
     let to = put_field(out, at, b"pair ", without_last(node, actions, count));
     put_byte(out, to, b' ')
@@ -72,7 +72,7 @@ fn put_position(out: &mut [u8], at: usize, actions: usize, count: usize, node: u
 
 // Of the node's number the last digits are its word, so `put_word` is given the number itself.
 fn put_node(out: &mut [u8], at: usize, actions: usize, count: usize, node: usize) -> usize
-    ensures { λ r. ⌜ page (now (out .exit)) r ≡ puts (page (now (out .entry)) at) (nodeText actions count node) ⌝ }
+    ensures { λ r. ⌜ Writes (now (out .entry)) at (nodeText actions count node) (now (out .exit)) r ⌝ }
 {
     let to = put_position(out, at, actions, count, node);
     put_word(out, to, actions, count, node)
@@ -86,7 +86,7 @@ pub fn put_allow(
     node: usize,
     mask: usize,
 ) -> usize
-    ensures { λ r. ⌜ page (now (out .exit)) r ≡ puts (page (now (out .entry)) at) (allowLine actions count node mask) ⌝ }
+    ensures { λ r. ⌜ Writes (now (out .entry)) at (allowLine actions count node mask) (now (out .exit)) r ⌝ }
 {
     let name = put_node(out, at, actions, count, node);
     let set = put_text(out, name, b" allow ");
@@ -102,7 +102,7 @@ pub fn put_rank(
     node: usize,
     rank: usize,
 ) -> usize
-    ensures { λ r. ⌜ page (now (out .exit)) r ≡ puts (page (now (out .entry)) at) (rankLine actions count node rank) ⌝ }
+    ensures { λ r. ⌜ Writes (now (out .entry)) at (rankLine actions count node rank) (now (out .exit)) r ⌝ }
 {
     let name = put_node(out, at, actions, count, node);
     put_field_line(out, name, b" rank ", rank)
@@ -117,7 +117,7 @@ fn put_start_at(
     word: usize,
 ) -> usize
     requires { ⌜ word < length (now flags) ⌝ }
-    ensures { λ r. ⌜ page (now (out .exit)) r ≡ puts (page (now (out .entry)) at) (startAt actions count (now (flags .entry)) word) ⌝ }
+    ensures { λ r. ⌜ Writes (now (out .entry)) at (startAt actions count (now (flags .entry)) word) (now (out .exit)) r ⌝ }
 {
     if flags[word] == 1 {
         return put_start(out, at, actions, count, word);
@@ -127,7 +127,7 @@ fn put_start_at(
 
 // A line for each entry that is 1.
 pub fn put_starts(out: &mut [u8], at: usize, actions: usize, count: usize, flags: &[u8]) -> usize
-    ensures { λ r. ⌜ page (now (out .exit)) r ≡ puts (page (now (out .entry)) at) (startLines actions count (now (flags .entry))) ⌝ }
+    ensures { λ r. ⌜ Writes (now (out .entry)) at (startLines actions count (now (flags .entry))) (now (out .exit)) r ⌝ }
 {
     let mut to = at;
     let mut k: usize = 0;
@@ -153,7 +153,7 @@ fn put_allow_at(
     node: usize,
 ) -> usize
     requires { ⌜ node < length (now masks) ⌝ }
-    ensures { λ r. ⌜ page (now (out .exit)) r ≡ puts (page (now (out .entry)) at) (allowAt actions count (now (masks .entry)) node) ⌝ }
+    ensures { λ r. ⌜ Writes (now (out .entry)) at (allowAt actions count (now (masks .entry)) node) (now (out .exit)) r ⌝ }
 {
     let mask = wide8(masks[node]);
     if mask == 0 {
@@ -164,7 +164,7 @@ fn put_allow_at(
 
 // A line for each entry that is not 0.
 pub fn put_allows(out: &mut [u8], at: usize, actions: usize, count: usize, masks: &[u8]) -> usize
-    ensures { λ r. ⌜ page (now (out .exit)) r ≡ puts (page (now (out .entry)) at) (allowLines actions count (now (masks .entry))) ⌝ }
+    ensures { λ r. ⌜ Writes (now (out .entry)) at (allowLines actions count (now (masks .entry))) (now (out .exit)) r ⌝ }
 {
     let mut to = at;
     let mut k: usize = 0;
@@ -184,7 +184,7 @@ fn put_rank_at(
     node: usize,
 ) -> usize
     requires { ⌜ node < length (now ranks) ⌝ }
-    ensures { λ r. ⌜ page (now (out .exit)) r ≡ puts (page (now (out .entry)) at) (rankAt actions count (now (ranks .entry)) node) ⌝ }
+    ensures { λ r. ⌜ Writes (now (out .entry)) at (rankAt actions count (now (ranks .entry)) node) (now (out .exit)) r ⌝ }
 {
     let rank = wide16(ranks[node]);
     if rank == 0 {
@@ -195,7 +195,7 @@ fn put_rank_at(
 
 // A line for each entry that is not 0.
 pub fn put_ranks(out: &mut [u8], at: usize, actions: usize, count: usize, ranks: &[u16]) -> usize
-    ensures { λ r. ⌜ page (now (out .exit)) r ≡ puts (page (now (out .entry)) at) (rankLines actions count (now (ranks .entry))) ⌝ }
+    ensures { λ r. ⌜ Writes (now (out .entry)) at (rankLines actions count (now (ranks .entry))) (now (out .exit)) r ⌝ }
 {
     let mut to = at;
     let mut k: usize = 0;

@@ -13,17 +13,17 @@ use Rattle.theory.specs.Play.{Play, origin, act, move, last, lastFrom, t
 use Rattle.theory.specs.Strategy.{initialLength, Strategy, actionOf, choice, by-action, by-move, Consistent, here, then, Wins}
 use Rattle.theory.specs.Delay.{odd, words, initialWords}
 use Rattle.theory.specs.Table.{Table, flagged, has, Fits, Judged, pending, word, node}
-use Rattle.theory.specs.Exact.{give, leastFlagged, lowestIn, commandAt, going, arrive, advance, turnBy, playBy, commandOf, exact}
+use Rattle.theory.specs.Exact.{some, leastFlagged, lowestIn, actionAt, going, arrive, advance, turnBy, playBy, exactChoice, exact}
 use Rattle.theory.proofs.Fold.{bool, not-both, below?, all-fails, first}
 use Rattle.theory.proofs.Words.{encode-suc, encode-zero, encode-same}
-use Rattle.theory.proofs.Masks.{lowest-gives}
-use Rattle.theory.proofs.Plays.{consistent-play, back-consistent, back-back, index-back, own-index, play-turns, even-own, odd-yard}
+use Rattle.theory.proofs.Masks.{lowest-acts}
+use Rattle.theory.proofs.Plays.{consistent-play, back-consistent, back-back, index-back, controller-index, play-turns, even-controller, odd-environment}
 use Rattle.theory.proofs.Pending.{odd-delay, even-delay, early-action, late-action, choice-lt}
 use Rattle.theory.proofs.Turns.{right-even, right-odd}
-use Rattle.theory.proofs.Keeping.{Seen}
+use Rattle.theory.proofs.Correctness.{Seen}
 use Rattle.theory.proofs.Tables.{has-mask, has-lacks}
-use Rattle.theory.proofs.Ours.{flagged-word}
-use Rattle.theory.proofs.Steering.{steered, steered-given, lowestAt, lowest-action, lowestStrategy, lowest-wins, lowest-has}
+use Rattle.theory.proofs.OurTable.{flagged-word}
+use Rattle.theory.proofs.NodeStrategy.{steered, steered-given, lowestAt, lowest-action, lowestStrategy, lowest-wins, lowest-has}
 
 -- the least flagged word is flagged
 pub least-flagged : (G : Game) (d : ℕ) (T : Table) → Fits G d T → (v : ℕ) → flagged T v ≡ true
@@ -83,7 +83,7 @@ module _ (G : Game) (legal : Legal G) (d : ℕ) (σ : Strategy (G .actions) d) w
       → lastActions (G .actions) π (d / 2) ≡ word d σ (back d π)
   unfolding word pending played
   pending-played {π} c o l =
-      let i = own-index legal (consistent-play c) o in
+      let i = controller-index legal (consistent-play c) o in
       let j = index-back d π in
       let t = play-turns legal (consistent-play (back-consistent d c)) in
       last-played c o (d / 2) (omega arith)
@@ -102,7 +102,7 @@ module _ (G : Game) (legal : Legal G) (d : ℕ) (σ : Strategy (G .actions) d) w
   -- and that history is of the right side
   pub back-seen : {π : Play} → Consistent G d σ π → G .controller (last G π) ≡ true → d ≤ index π → Seen G legal d σ (back d π)
   back-seen {π} c o l =
-      let i = own-index legal (consistent-play c) o in
+      let i = controller-index legal (consistent-play c) o in
       let j = index-back d π in
       let p = consistent-play (back-consistent d c) in
       record {
@@ -111,10 +111,10 @@ module _ (G : Game) (legal : Legal G) (d : ℕ) (σ : Strategy (G .actions) d) w
             ⊎-elim
             (λ (e : odd d ≡ true).
             let m = odd-delay d e in
-            right-odd G (odd d) (last G (back d π)) e ∙ ap not (odd-yard legal p (omega arith)))
+            right-odd G (odd d) (last G (back d π)) e ∙ ap not (odd-environment legal p (omega arith)))
             (λ (e : odd d ≡ false).
             let m = even-delay d e in
-            right-even G (odd d) (last G (back d π)) e ∙ even-own legal p (omega arith))
+            right-even G (odd d) (last G (back d π)) e ∙ even-controller legal p (omega arith))
             (bool (odd d));
       }
 
@@ -132,7 +132,7 @@ pub record Goes (G : Game) (d : ℕ) (T : Table) (rule : Rule) (n : ℕ) : Type 
   -- the next command is there and permitted
   pub action : ℕ
   pub action-lt : action < G .actions
-  pub commanded : commandOf G d T play ≡ give action
+  pub has-action : exactChoice G d T play ≡ some action
   pub target : ℕ
   pub permitted : G .target (last G play) action ≡ to target
 
@@ -151,34 +151,34 @@ module _ (G : Game) (legal : Legal G) (d : ℕ) (T : Table) (fits : Fits G d T) 
   given-lowest π s =
       steered-given G legal d (lowestAt G T) (lowest-action G legal d T fits) (leastFlagged T) (least-flagged G d T fits w w-flagged .0) π s
 
-  mask-command : (k : ℕ) → has T k ≡ true → lowestIn (G .actions) (getD (T .masks) k 0) ≡ give (lowestAt G T k)
+  mask-action : (k : ℕ) → has T k ≡ true → lowestIn (G .actions) (getD (T .masks) k 0) ≡ some (lowestAt G T k)
   unfolding lowestAt
-  mask-command k e = rw (has-lacks T k e) (lowest-gives (G .actions) (getD (T .masks) k 0) (has-mask T k e))
+  mask-action k e = rw (has-lacks T k e) (lowest-acts (G .actions) (getD (T .masks) k 0) (has-mask T k e))
 
   -- the rule for commands is the strategy's choice
-  command-choice : {π : Play} → Consistent G d σ π → G .controller (last G π) ≡ true → commandOf G d T π ≡ give (choice d σ π)
-  unfolding commandOf commandAt choice
-  command-choice {π} c o =
-      let i = own-index legal (consistent-play c) o in
+  exact-choice : {π : Play} → Consistent G d σ π → G .controller (last G π) ≡ true → exactChoice G d T π ≡ some (choice d σ π)
+  unfolding exactChoice actionAt choice
+  exact-choice {π} c o =
+      let i = controller-index legal (consistent-play c) o in
       ⊎-elim
       (λ (l : 2 * turns π < d).
       rw (lt-ltb (2 * turns π) d l)
-      (ap give (sym (early-action d σ (turns π) (back d π) l ∙ ap (λ v. digit (G .actions) (initialLength d) v (turns π)) first-word)))
+      (ap some (sym (early-action d σ (turns π) (back d π) l ∙ ap (λ v. digit (G .actions) (initialLength d) v (turns π)) first-word)))
       )
       (λ (l : d ≤ 2 * turns π).
       rw (le-ltb (2 * turns π) d l)
-      (late (omega arith) ∙ ap give (sym (late-action d σ (turns π) (back d π) l))))
+      (late (omega arith) ∙ ap some (sym (late-action d σ (turns π) (back d π) l))))
       (below? (2 * turns π) d)
     where
       late : d ≤ index π
           → lowestIn (G .actions) (getD (T .masks) (last G (back d π) * G .actions ^ (d / 2) + lastActions (G .actions) π (d / 2)) 0)
-          ≡ give (σ .given (back d π))
+          ≡ some (σ .given (back d π))
       late l =
           let s = back-seen G legal d σ c o l in
           let h = lowest-has G legal d T fits judged (leastFlagged T) (least-flagged G d T fits w w-flagged .0) (least-flagged G d T fits w w-flagged .1) s in
           ap (λ k. lowestIn (G .actions) (getD (T .masks) k 0)) (node-played G legal d σ c o l)
-          ∙ mask-command (node G d σ (back d π)) h
-          ∙ ap give (sym (given-lowest (back d π) s))
+          ∙ mask-action (node G d σ (back d π)) h
+          ∙ ap some (sym (given-lowest (back d π) s))
 
   wins-σ : Wins G d σ
   wins-σ =
@@ -186,10 +186,10 @@ module _ (G : Game) (legal : Legal G) (d : ℕ) (T : Table) (fits : Fits G d T) 
       lowest-wins G legal d T fits judged (leastFlagged T) (l .0) (l .1)
 
   -- a turn of the exact play
-  one-turn : (rule : Rule) (n : ℕ) (π : Play) (c q : ℕ) → exact G d T rule n ≡ going π → commandOf G d T π ≡ give c
+  one-turn : (rule : Rule) (n : ℕ) (π : Play) (c q : ℕ) → exact G d T rule n ≡ going π → exactChoice G d T π ≡ some c
       → G .target (last G π) c ≡ to q → exact G d T rule (suc n) ≡ going (move (act π c q) (rule (act π c q)))
   unfolding exact playBy turnBy advance arrive
-  one-turn rule n π c q e g t = ap (turnBy G rule (commandOf G d T)) e ∙ rw (g, advance) (rw t)
+  one-turn rule n π c q e g t = ap (turnBy G rule (exactChoice G d T)) e ∙ rw (g, advance) (rw t)
 
   reaches : (rule : Rule) → IsRule G rule → (n : ℕ)
       → (π : Play) × Consistent G d σ π × (exact G d T rule n ≡ going π) × (turns π ≡ n) × (G .controller (last G π) ≡ true)
@@ -205,7 +205,7 @@ module _ (G : Game) (legal : Legal G) (d : ℕ) (T : Table) (fits : Fits G d T) 
           let m = is _ (consistent-play c′) (legal .targets _ _ _ (p .1) .environment) in (
             move (act π (choice d σ π) (p .0)) (rule (act π (choice d σ π) (p .0))),
             then c′ (by-move _ m),
-            one-turn rule n π (choice d σ π) (p .0) e (command-choice c o) (p .1),
+            one-turn rule n π (choice d σ π) (p .0) e (exact-choice c o) (p .1),
             ap suc t,
             legal .moves _ _ m .controller,
           )
@@ -215,7 +215,7 @@ module _ (G : Game) (legal : Legal G) (d : ℕ) (T : Table) (fits : Fits G d T) 
   exact-goes rule is n =
       let (π, c, e, t, o) = reaches rule is n in
       let p = wins-σ .playable π c o in
-      let i = own-index legal (consistent-play c) o in
+      let i = controller-index legal (consistent-play c) o in
       record {
         play = π;
         is = e;
@@ -226,7 +226,7 @@ module _ (G : Game) (legal : Legal G) (d : ℕ) (T : Table) (fits : Fits G d T) 
         safe = λ k. wins-σ .safe (back k π) (back-consistent k c);
         action = choice d σ π;
         action-lt = choice-lt d σ π;
-        commanded = command-choice c o;
+        has-action = exact-choice c o;
         target = p .0;
         permitted = p .1;
       }

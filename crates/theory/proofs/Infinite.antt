@@ -12,7 +12,7 @@ use Rattle.theory.specs.Play.{Play, origin, act, move, lastFrom, last, i
 use Rattle.theory.specs.Strategy.{Strategy, choice, Next, by-action, by-move, Consistent, here, then, Playable, Wins}
 use Rattle.theory.specs.Infinite.{Infinite, upTo, actedAt, Outcome, Against, AllSafe}
 use Rattle.theory.proofs.Fold.{not-both, below?}
-use Rattle.theory.proofs.Plays.{back-all, back-next, consistent-play, play-position, Acts, Moves, next-own, next-yard}
+use Rattle.theory.proofs.Plays.{back-all, back-next, consistent-play, play-position, Acts, Moves, next-controller, next-environment}
 
 -- the prefixes of an outcome are consistent
 module _ {G : Game} {A d : ℕ} {σ : Strategy A d} {π : Infinite} (o : Outcome G d σ π) where
@@ -57,16 +57,16 @@ module _
     double : (i : ℕ) → f (2 * suc i) ≡ f (suc (suc (2 * i)))
     double i = let e : 2 * suc i ≡ suc (suc (2 * i)) = omega arith in ap f e
 
-    chain-own : (i : ℕ) → G .controller (last G (f (2 * i))) ≡ true
+    chain-controller : (i : ℕ) → G .controller (last G (f (2 * i))) ≡ true
     unfolding lastFrom
-    chain-own zero = rw first (legal .start-controller)
-    chain-own (suc i) = rw (double i) (next-yard legal (next _) (next-own legal (next _) (chain-own i) .yard) .own)
+    chain-controller zero = rw first (legal .start-controller)
+    chain-controller (suc i) = rw (double i) (next-environment legal (next _) (next-controller legal (next _) (chain-controller i) .yard) .own)
 
     acts : (i : ℕ) → Acts G d σ (f (2 * i)) (f (suc (2 * i)))
-    acts i = next-own legal (next _) (chain-own i)
+    acts i = next-controller legal (next _) (chain-controller i)
 
     moves : (i : ℕ) → Moves G (f (suc (2 * i))) (f (2 * suc i))
-    moves i = rw (double i) (next-yard legal (next _) (acts i .yard))
+    moves i = rw (double i) (next-environment legal (next _) (acts i .yard))
 
     limit-upTo : (i : ℕ) → upTo (limit G d σ f) i ≡ f (2 * i)
     unfolding upTo limit
@@ -146,9 +146,9 @@ module _ (G : Game) {A : ℕ} (d : ℕ) (σ : Strategy A d) (rule : Rule) where
   index-extend ρ zero = omega arith
   index-extend ρ (suc n) = rw index-after (omega (arith, index-extend ρ n))
 
-  extend-yard : (ρ : Play) (n : ℕ) → G .controller (last G (extend ρ n)) ≡ false → last G (extend ρ (suc n)) ≡ rule (extend ρ n)
+  extend-environment : (ρ : Play) (n : ℕ) → G .controller (last G (extend ρ n)) ≡ false → last G (extend ρ (suc n)) ≡ rule (extend ρ n)
   unfolding lastFrom after extend
-  extend-yard ρ n e = rw e
+  extend-environment ρ n e = rw e
 
   module _ (playable : Playable G d σ) (obeys : IsRule G rule) where
     after-next : (b : Bool) {π : Play} → Consistent G d σ π → G .controller (last G π) ≡ b → Next G d σ π (after b π)
@@ -176,7 +176,7 @@ wins-infinite G legal d σ w rule obeys =
     let f : ℕ → Play = extend G d σ rule origin in
     let next : (n : ℕ) → Next G d σ (f n) (f (suc n)) = chain-next G d σ rule (w .playable) obeys here in
     let o : Outcome G d σ (limit G d σ f) = limit-outcome legal d σ f refl next in
-    (limit G d σ f, o, limit-against legal d σ f refl next rule (extend-yard G d σ rule origin), wins-safe w _ o)
+    (limit G d σ f, o, limit-against legal d σ f refl next rule (extend-environment G d σ rule origin), wins-safe w _ o)
 
 -- every consistent play of a playable strategy goes on to an outcome, which has its last position at its index
 pub prefix-outcome : (G : Game) → Legal G → {A : ℕ} (d : ℕ) (σ : Strategy A d) → Playable G d σ → {ρ : Play} → Consistent G d σ ρ

@@ -1,6 +1,7 @@
 -- The theorems over specs/, each once, for every delay, number of actions and game.
 pub mod Fold
 pub mod Answer
+pub mod Buffer
 pub mod Words
 pub mod Masks
 pub mod Rounds
@@ -9,10 +10,10 @@ pub mod Plays
 pub mod Infinite
 pub mod Pending
 pub mod Turns
-pub mod Keeping
+pub mod Correctness
 pub mod Tables
-pub mod Ours
-pub mod Steering
-pub mod Waiting
+pub mod OurTable
+pub mod NodeStrategy
+pub mod Monotone
 pub mod Exact
 pub mod Cases

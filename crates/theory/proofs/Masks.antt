@@ -14,7 +14,7 @@ use borrow.Author.Tests.{eq-eqb, ne-eqb, eqb-true, eqb-false, not-true, not-fals
 use Rattle.theory.specs.Fold.{anyBelow, firstNot}
 use Rattle.theory.specs.Rounds.{maskBelow}
 use Rattle.theory.specs.Table.{bit}
-use Rattle.theory.specs.Exact.{missing, give, lowestIn}
+use Rattle.theory.specs.Exact.{none, some, lowestIn}
 use Rattle.theory.proofs.Fold.{bool, not-both, all-fails, First, first, first-unique, any-some, any-below-none}
 
 -- bits, lowest first
@@ -124,11 +124,11 @@ module _ (A m : ℕ) (small : m < 2 ^ A) (some : m ≡ 0 → ⊥) where
       let f = lowest-first in
       record { action = f .below; allowed = not-false _ (f .fails); least = λ j h. not-true _ (f .before j h) }
 
-pub lowest-gives : (A m : ℕ) → (m ≡ 0 → ⊥) → lowestIn A m ≡ give (firstNot (λ c. not (bit m c)) A)
+pub lowest-acts : (A m : ℕ) → (m ≡ 0 → ⊥) → lowestIn A m ≡ some (firstNot (λ c. not (bit m c)) A)
 unfolding lowestIn
-lowest-gives A m z = rw (ne-eqb m 0 z)
+lowest-acts A m z = rw (ne-eqb m 0 z)
 
-pub lowest-missing : (A m : ℕ) → m ≡ 0 → lowestIn A m ≡ missing
+pub lowest-missing : (A m : ℕ) → m ≡ 0 → lowestIn A m ≡ none
 unfolding lowestIn
 lowest-missing A m z = rw (eq-eqb m 0 z)
 

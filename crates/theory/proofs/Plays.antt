@@ -104,25 +104,25 @@ module _ {G : Game} (legal : Legal G) where
     pub play-position : last G π < G .positions
     play-position = (play-side p) .position
 
-    pub own-index : G .controller (last G π) ≡ true → index π ≡ 2 * turns π
-    own-index = (play-side p) .own
+    pub controller-index : G .controller (last G π) ≡ true → index π ≡ 2 * turns π
+    controller-index = (play-side p) .own
 
-    pub yard-index : G .controller (last G π) ≡ false → suc (index π) ≡ 2 * turns π
-    yard-index = (play-side p) .yard
+    pub environment-index : G .controller (last G π) ≡ false → suc (index π) ≡ 2 * turns π
+    environment-index = (play-side p) .yard
 
     pub play-turns : turns π ≡ (index π + 1) / 2
     play-turns =
         ⊎-elim
-        (λ (e : G .controller (last G π) ≡ true). omega (arith, own-index e))
-        (λ (e : G .controller (last G π) ≡ false). omega (arith, yard-index e))
+        (λ (e : G .controller (last G π) ≡ true). omega (arith, controller-index e))
+        (λ (e : G .controller (last G π) ≡ false). omega (arith, environment-index e))
         (bool (G .controller (last G π)))
 
     -- "even indices are own, odd ones yard"
-    pub even-own : index π % 2 ≡ 0 → G .controller (last G π) ≡ true
-    even-own h = ⊎-elim (λ e. e) (λ e. absurd (omega (arith, yard-index e))) (bool (G .controller (last G π)))
+    pub even-controller : index π % 2 ≡ 0 → G .controller (last G π) ≡ true
+    even-controller h = ⊎-elim (λ e. e) (λ e. absurd (omega (arith, environment-index e))) (bool (G .controller (last G π)))
 
-    pub odd-yard : index π % 2 ≡ 1 → G .controller (last G π) ≡ false
-    odd-yard h = ⊎-elim (λ e. absurd (omega (arith, own-index e))) (λ e. e) (bool (G .controller (last G π)))
+    pub odd-environment : index π % 2 ≡ 1 → G .controller (last G π) ≡ false
+    odd-environment h = ⊎-elim (λ e. absurd (omega (arith, controller-index e))) (λ e. e) (bool (G .controller (last G π)))
 
 -- one move of a consistent play changes the side
 
@@ -137,12 +137,12 @@ pub record Moves (G : Game) (π π′ : Play) : Type 0 where
   pub own : G .controller (last G π′) ≡ true
 
 module _ {G : Game} (legal : Legal G) {A d : ℕ} {σ : Strategy A d} where
-  pub next-own : {π π′ : Play} → Next G d σ π π′ → G .controller (last G π) ≡ true → Acts G d σ π π′
+  pub next-controller : {π π′ : Play} → Next G d σ π π′ → G .controller (last G π) ≡ true → Acts G d σ π π′
   unfolding lastFrom
-  next-own (by-action q e) o = record { play = refl; target = e; yard = legal .targets _ _ q e .environment }
-  next-own (by-move r m) o = absurd (not-both o (legal .moves _ r m .from-environment))
+  next-controller (by-action q e) o = record { play = refl; target = e; yard = legal .targets _ _ q e .environment }
+  next-controller (by-move r m) o = absurd (not-both o (legal .moves _ r m .from-environment))
 
-  pub next-yard : {π π′ : Play} → Next G d σ π π′ → G .controller (last G π) ≡ false → Moves G π π′
+  pub next-environment : {π π′ : Play} → Next G d σ π π′ → G .controller (last G π) ≡ false → Moves G π π′
   unfolding lastFrom
-  next-yard (by-action q e) y = absurd (not-both (legal .targets _ _ q e .from-controller) y)
-  next-yard (by-move r m) y = record { play = refl; member = m; own = legal .moves _ r m .controller }
+  next-environment (by-action q e) y = absurd (not-both (legal .targets _ _ q e .from-controller) y)
+  next-environment (by-move r m) y = record { play = refl; member = m; own = legal .moves _ r m .controller }

@@ -10,7 +10,7 @@ use lib.ListN.{length, getD}
 use borrow.Author.Tests.{not-true, not-false}
 use Rattle.theory.specs.Fold.{allBelow, firstNot}
 use Rattle.theory.specs.Game.{Target, to}
-use Rattle.theory.specs.Rounds.{Arena, spoiltBy, fell, falls, ranksAfter, finalRanks, kept, maskBelow, maskAt, masksBy, masks}
+use Rattle.theory.specs.Rounds.{Arena, Closed, spoiltBy, fell, falls, ranksAfter, finalRanks, kept, maskBelow, maskAt, masksBy, masks}
 use Rattle.theory.specs.Table.{bit}
 use Rattle.theory.proofs.Fold.{bool, not-both, both-true, both-left, both-right, all-fails, below?, first, length-tabulate, getD-tabulate, getD-tabulate-out}
 use Rattle.theory.proofs.Rounds.{unspoilt, unspoilt-outcome, fell-false, rank-zero, stands, stood-before, stood-falls, final-quiet}
@@ -59,15 +59,8 @@ module _ (E : Arena) where
       ∙ stood-falls E (suc (E .nodes)) k h (kept-right (ranksAfter E (suc (E .nodes))) k e)
       (rw (final-quiet E) (kept-stood (ranksAfter E (suc (E .nodes))) k e))
 
-  -- S is a winning set at k: k is safe and has an action all of whose outcomes stay inside S
-  pub record Closed (S : ℕ → Type 0) (k : ℕ) : Type 0 where
-    pub safe : E .safe k ≡ true
-    pub action : ℕ
-    pub action-lt : action < E .actions
-    pub inside : (o : Target) → List·Memᴰ o (E .step k action) → (k′ : ℕ) × (o ≡ to k′) × S k′
-
   -- the winning region is a winning set
-  pub region-closed : (k : ℕ) → k < E .nodes → kept E (finalRanks E) k ≡ true → Closed (λ k′. fell (finalRanks E) k′ ≡ false) k
+  pub region-closed : (k : ℕ) → k < E .nodes → kept E (finalRanks E) k ≡ true → Closed E (λ k′. fell (finalRanks E) k′ ≡ false) k
   region-closed k h e =
       let f = first (spoiltBy E (fell (finalRanks E)) k) (E .actions) (region-action k h e) in
       record {
@@ -78,7 +71,7 @@ module _ (E : Arena) where
       }
 
   -- and contains every winning set: no node of one ever falls. Only nodes of the right side need be looked at
-  pub never-falls : (S : ℕ → Type 0) → ((k : ℕ) → k < E .nodes → E .right k ≡ true → S k → Closed S k) → (n k : ℕ) → S k
+  pub never-falls : (S : ℕ → Type 0) → ((k : ℕ) → k < E .nodes → E .right k ≡ true → S k → Closed E S k) → (n k : ℕ) → S k
       → fell (ranksAfter E n) k ≡ false
   never-falls S closed zero k s = fell-false (ranksAfter E 0) k (rank-zero E k)
   never-falls S closed (suc zero) k s =
@@ -93,7 +86,7 @@ module _ (E : Arena) where
       (unspoilt E (fell (ranksAfter E (suc n))) k (c .action)
       (λ o m. let i = c .inside o m in (i .0, i .1, never-falls S closed (suc n) (i .0) (i .2))))))
 
-  pub region-largest : (S : ℕ → Type 0) → ((k : ℕ) → k < E .nodes → E .right k ≡ true → S k → Closed S k) → (k : ℕ) → S k
+  pub region-largest : (S : ℕ → Type 0) → ((k : ℕ) → k < E .nodes → E .right k ≡ true → S k → Closed E S k) → (k : ℕ) → S k
       → fell (finalRanks E) k ≡ false
   unfolding finalRanks
   region-largest S closed k s = never-falls S closed (suc (E .nodes)) k s

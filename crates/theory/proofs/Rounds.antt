@@ -59,9 +59,9 @@ module _ (E : Arena) (n : ℕ) (ranks : List ℕ) (k : ℕ) where
   unfolding rankIn
   in-fallen e = rw e
 
-  pub in-struck : fell ranks k ≡ false → E .right k ≡ true → falls E n ranks k ≡ true → rankIn E n ranks k ≡ suc n
+  pub in-fell : fell ranks k ≡ false → E .right k ≡ true → falls E n ranks k ≡ true → rankIn E n ranks k ≡ suc n
   unfolding rankIn
-  in-struck e r f = rw (e, both-true _ _ r f)
+  in-fell e r f = rw (e, both-true _ _ r f)
 
   pub in-stands : fell ranks k ≡ false → both (E .right k) (falls E n ranks k) ≡ false → rankIn E n ranks k ≡ 0
   unfolding rankIn
@@ -76,7 +76,7 @@ module _ (E : Arena) (n : ℕ) (ranks : List ℕ) (k : ℕ) where
         e,
         ⊎-elim
             (λ (f : both (E .right k) (falls E n ranks k) ≡ true).
-            let q = in-struck e (both-left _ _ f) (both-right _ _ f) in
+            let q = in-fell e (both-left _ _ f) (both-right _ _ f) in
             absurd (omega arith))
             (λ f. f)
             (bool (both (E .right k) (falls E n ranks k))),
@@ -192,7 +192,7 @@ module _ (E : Arena) where
           let s = rank-suc n k h in
           ⊎-elim
           (λ (t : both (E .right k) (falls E n (ranksAfter E n) k) ≡ true).
-          let q = in-struck E n (ranksAfter E n) k e (both-left _ _ t) (both-right _ _ t) in
+          let q = in-fell E n (ranksAfter E n) k e (both-left _ _ t) (both-right _ _ t) in
           omega arith)
           (λ (t : both (E .right k) (falls E n (ranksAfter E n) k) ≡ false).
           let q = in-stands E n (ranksAfter E n) k e t in
@@ -204,15 +204,15 @@ module _ (E : Arena) where
   -- a node that falls in round n + 1 has that round as its rank, from then on
   pub rank-is-round : (n m k : ℕ) → fell (ranksAfter E n) k ≡ false → fell (ranksAfter E (suc n)) k ≡ true
       → rank (m + suc n) k ≡ suc n
-  rank-is-round n m k e f = stays-long (suc n) m k f ∙ struck
+  rank-is-round n m k e f = stays-long (suc n) m k f ∙ chained
     where
-      struck : rank (suc n) k ≡ suc n
-      struck =
+      chained : rank (suc n) k ≡ suc n
+      chained =
           let h = fell-node (suc n) k f in
           let s = rank-suc n k h in
           ⊎-elim
           (λ (t : both (E .right k) (falls E n (ranksAfter E n) k) ≡ true).
-          s ∙ in-struck E n (ranksAfter E n) k e (both-left _ _ t) (both-right _ _ t))
+          s ∙ in-fell E n (ranksAfter E n) k e (both-left _ _ t) (both-right _ _ t))
           (λ (t : both (E .right k) (falls E n (ranksAfter E n) k) ≡ false).
           let z : rank (suc n) k ≡ 0 = s ∙ in-stands E n (ranksAfter E n) k e t in
           absurd (not-both f (fell-false (ranksAfter E (suc n)) k z)))

@@ -21,7 +21,7 @@ use Rattle.theory.proofs.Masks.{zero-bit}
 use Rattle.theory.proofs.Rounds.{unspoilt, unspoilt-outcome}
 use Rattle.theory.proofs.Turns.{right-even, right-odd, to-injective, played-node, played-forbidden, played-passed, moved-passed}
 use Rattle.theory.proofs.Pending.{even-delay}
-use Rattle.theory.proofs.Keeping.{Starts, good-starts, starts-good, Seen, Keeping, seen-node, keeping-wins, keeping-node}
+use Rattle.theory.proofs.Correctness.{Starts, good-starts, starts-good, Seen, Correctness, seen-node, keeping-wins, keeping-node}
 
 -- a table's tests
 
@@ -64,9 +64,9 @@ module _ (G : Game) (legal : Legal G) (d : ℕ) where
   unfolding arena
   node-number p w h l = digits-lt h l
 
-  node-own : (p w : ℕ) → w < words G d → arena G d .right (p * words G d + w) ≡ onRight (odd d) G p
+  node-controller : (p w : ℕ) → w < words G d → arena G d .right (p * words G d + w) ≡ onRight (odd d) G p
   unfolding arena
-  node-own p w l = ap (onRight (odd d) G) (digits-div p l)
+  node-controller p w l = ap (onRight (odd d) G) (digits-div p l)
 
   -- a step reaches only nodes, of the right side
 
@@ -103,7 +103,7 @@ module _ (G : Game) (legal : Legal G) (d : ℕ) where
     where
       found : (p w : ℕ) → p < G .positions → onRight (odd d) G p ≡ true → w < words G d → k′ ≡ p * words G d + w
           → (k′ < G .positions * words G d) × (onRight (odd d) G (k′ / words G d) ≡ true)
-      found p w h r l e = rw e (node-number p w h l, node-own p w l ∙ r)
+      found p w h r l e = rw e (node-number p w h l, node-controller p w l ∙ r)
 
       reach : (b : Bool) → odd d ≡ b → List·Memᴰ (to k′) (outcomes b G (words G d) (k / words G d) ((k % words G d) * G .actions + c))
           → (k′ < G .positions * words G d) × (onRight (odd d) G (k′ / words G d) ≡ true)
@@ -155,7 +155,7 @@ module _ (G : Game) (legal : Legal G) (d : ℕ) (T : Table) (judged : Judged G d
     pub given : (π : Play) → Seen G legal d σ π → has T (node G d σ π) ≡ true → allows T (node G d σ π) (σ .given π) ≡ true
 
   module _ (σ : Strategy (G .actions) d) (picks : Picks σ) where
-    keeping : Keeping G legal d σ (λ k. has T k ≡ true)
+    keeping : Correctness G legal d σ (λ k. has T k ≡ true)
     keeping =
         record {
           safe = λ k h r s. judged .safe k h s;

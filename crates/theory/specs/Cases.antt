@@ -69,8 +69,8 @@ unfoldable pub slow : Game
 slow = gameFrom 2 (0 ∷ 0 ∷ 0 ∷ 2 ∷ 2 ∷ []) (0 ∷ 1 ∷ 3 ∷ 1 ∷ 0 ∷ 4 ∷ 2 ∷ 0 ∷ 4 ∷ 2 ∷ 1 ∷ 4 ∷ []) (3 ∷ 1 ∷ 4 ∷ 0 ∷ 4 ∷ 2 ∷ [])
 
 -- a node falls by one that falls in the round before and has a lower number
-unfoldable pub struck : Game
-struck = gameFrom 2 (0 ∷ 0 ∷ 2 ∷ 3 ∷ []) (0 ∷ 1 ∷ 3 ∷ 1 ∷ 0 ∷ 2 ∷ 1 ∷ 1 ∷ 2 ∷ []) (2 ∷ 0 ∷ 2 ∷ 1 ∷ 3 ∷ 1 ∷ [])
+unfoldable pub chained : Game
+chained = gameFrom 2 (0 ∷ 0 ∷ 2 ∷ 3 ∷ []) (0 ∷ 1 ∷ 3 ∷ 1 ∷ 0 ∷ 2 ∷ 1 ∷ 1 ∷ 2 ∷ []) (2 ∷ 0 ∷ 2 ∷ 1 ∷ 3 ∷ 1 ∷ [])
 
 -- the same at delay 1, by an unsafe own position
 unfoldable pub turned : Game
@@ -86,7 +86,7 @@ cases =
     ∷ (case passing 4 (won (1 ∷ 0 ∷ 0 ∷ 0 ∷ []) (1 ∷ 0 ∷ 0 ∷ 0 ∷ 0 ∷ 0 ∷ 0 ∷ 0 ∷ 0 ∷ 0 ∷ 0 ∷ 0 ∷ 0 ∷ 0 ∷ 0 ∷ 0 ∷ [])))
     ∷ (case chosen 2 (won (0 ∷ 1 ∷ []) (0 ∷ 2 ∷ 0 ∷ 0 ∷ 0 ∷ 0 ∷ 0 ∷ 0 ∷ 0 ∷ 0 ∷ [])))
     ∷ (case slow 3 (lost 3 (0 ∷ 0 ∷ 0 ∷ 0 ∷ 0 ∷ 0 ∷ 4 ∷ 2 ∷ 2 ∷ 3 ∷ [])))
-    ∷ (case struck 0 (lost 0 (2 ∷ 3 ∷ 0 ∷ 0 ∷ [])))
-    ∷ (case struck 1 (lost 0 (2 ∷ 3 ∷ 0 ∷ 0 ∷ [])))
+    ∷ (case chained 0 (lost 0 (2 ∷ 3 ∷ 0 ∷ 0 ∷ [])))
+    ∷ (case chained 1 (lost 0 (2 ∷ 3 ∷ 0 ∷ 0 ∷ [])))
     ∷ (case turned 1 (lost 1 (0 ∷ 0 ∷ 0 ∷ 2 ∷ 3 ∷ [])))
     ∷ []

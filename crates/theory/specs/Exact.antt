@@ -11,22 +11,22 @@ use Rattle.theory.specs.Play.{Play, origin, act, move, last, turns, back
 use Rattle.theory.specs.Strategy.{initialLength}
 use Rattle.theory.specs.Table.{Table, flagged, bit}
 
-pub data Command : Type 0 where
-  missing : Command
-  give : ℕ → Command
+pub data MaybeAction : Type 0 where
+  none : MaybeAction
+  some : ℕ → MaybeAction
 
 -- "the least word flagged in W"
 unfoldable pub leastFlagged : Table → ℕ
 leastFlagged T = firstNot (λ v. not (flagged T v)) (length (T .flags))
 
 -- "the lowest in the mask", of A actions; missing where the mask is 0
-unfoldable pub lowestIn : ℕ → ℕ → Command
-lowestIn A m = cond (eqb m 0) missing (give (firstNot (λ c. not (bit m c)) A))
+unfoldable pub lowestIn : ℕ → ℕ → MaybeAction
+lowestIn A m = cond (eqb m 0) none (some (firstNot (λ c. not (bit m c)) A))
 
 -- the command of turn i, from the position p at index 2i - d and the word w of the last L actions
-unfoldable pub commandAt : ℕ → ℕ → Table → ℕ → ℕ → ℕ → Command
-commandAt A d T i p w =
-    cond (ltb (2 * i) d) (give (digit A (initialLength d) (leastFlagged T) i)) (lowestIn A (getD (T .masks) (p * A ^ (d / 2) + w) 0))
+unfoldable pub actionAt : ℕ → ℕ → Table → ℕ → ℕ → ℕ → MaybeAction
+actionAt A d T i p w =
+    cond (ltb (2 * i) d) (some (digit A (initialLength d) (leastFlagged T) i)) (lowestIn A (getD (T .masks) (p * A ^ (d / 2) + w) 0))
 
 -- "Either play ends at a command that is missing or not permitted"
 pub data Run : Type 0 where
@@ -42,28 +42,28 @@ unfoldable pub arrive : Rule → Play → ℕ → Target → Run
 arrive rule π c absent = ended π
 arrive rule π c (to q) = going (move (act π c q) (rule (act π c q)))
 
-unfoldable pub advance : Game → Rule → Play → Command → Run
-advance G rule π missing = ended π
-advance G rule π (give c) = arrive rule π c (G .target (last G π) c)
+unfoldable pub advance : Game → Rule → Play → MaybeAction → Run
+advance G rule π none = ended π
+advance G rule π (some c) = arrive rule π c (G .target (last G π) c)
 
-unfoldable pub turnBy : Game → Rule → (Play → Command) → Run → Run
-turnBy G rule command (ended π) = ended π
-turnBy G rule command (going π) = advance G rule π (command π)
+unfoldable pub turnBy : Game → Rule → (Play → MaybeAction) → Run → Run
+turnBy G rule choose (ended π) = ended π
+turnBy G rule choose (going π) = advance G rule π (choose π)
 
 -- n turns by a command for each play
-unfoldable pub playBy : Game → Rule → (Play → Command) → ℕ → Run
-playBy G rule command zero = going origin
-playBy G rule command (suc n) = turnBy G rule command (playBy G rule command n)
+unfoldable pub playBy : Game → Rule → (Play → MaybeAction) → ℕ → Run
+playBy G rule choose zero = going origin
+playBy G rule choose (suc n) = turnBy G rule choose (playBy G rule choose n)
 
 -- the exact play's command at the end of π
-unfoldable pub commandOf : Game → ℕ → Table → Play → Command
-commandOf G d T π = commandAt (G .actions) d T (turns π) (last G (back d π)) (lastActions (G .actions) π (d / 2))
+unfoldable pub exactChoice : Game → ℕ → Table → Play → MaybeAction
+exactChoice G d T π = actionAt (G .actions) d T (turns π) (last G (back d π)) (lastActions (G .actions) π (d / 2))
 
 -- the exact play after n turns: made from the game, the table and the rule alone
 unfoldable pub exact : Game → ℕ → Table → Rule → ℕ → Run
-exact G d T rule n = playBy G rule (commandOf G d T) n
+exact G d T rule n = playBy G rule (exactChoice G d T) n
 
 -- the worked play, from the rule and the actions given, newest first
 unfoldable pub worked : Game → Rule → List ℕ → Run
 worked G rule [] = going origin
-worked G rule (c ∷ earlier) = turnBy G rule (λ π. give c) (worked G rule earlier)
+worked G rule (c ∷ earlier) = turnBy G rule (λ π. some c) (worked G rule earlier)

@@ -1,6 +1,8 @@
 -- What a reader must believe, in document 01's order. Each file says what it defines.
 pub mod Fold
+pub mod Bytes
 pub mod Answer
+pub mod Buffer
 pub mod Words
 pub mod Game
 pub mod Play

@@ -1,8 +1,9 @@
 -- The rounds of document 01 ("Pairs, rounds and the table") over an abstract arena, without parity, games or words. What has
 -- fallen is a parameter of `spoiltBy`, so that judging and notices use the same definition. Assumes nothing.
-use Prim.Native.Nat.{ℕ, zero, suc, _+_, _^_}
+use Prim.Native.Nat.{ℕ, zero, suc, _+_, _^_, _<_}
+use mathlib.Core.Path.{_≡_}
 use mathlib.Core.Bool.{Bool, true, not, cond}
-use mathlib.Core.List.{List}
+use mathlib.Core.List.{List, List·Memᴰ}
 use lib.Dec.{eqb}
 use lib.ListN.{getD}
 use Rattle.theory.specs.Fold.{both, allBelow, anyOf, tabulate}
@@ -66,3 +67,10 @@ masksBy E ranks = tabulate (maskAt E ranks) 0 (E .nodes)
 
 unfoldable pub masks : Arena → List ℕ
 masks E = masksBy E (finalRanks E)
+
+-- S is a winning set at node k: k is safe and has an action all of whose outcomes are nodes of S
+pub record Closed (E : Arena) (S : ℕ → Type 0) (k : ℕ) : Type 0 where
+  pub safe : E .safe k ≡ true
+  pub action : ℕ
+  pub action-lt : action < E .actions
+  pub inside : (o : Target) → List·Memᴰ o (E .step k action) → (k′ : ℕ) × (o ≡ to k′) × S k′

@@ -17,7 +17,7 @@ module _ (positions : ℕ) (l : Level) where
   sized-tested s =
       both-true _ _ (le-leb _ _ (s .few-positions))
       (both-true _ _ (le-leb _ _ (s .few-actions))
-      (both-true _ _ (le-leb 1 (l .power) (s .some-word))
+      (both-true _ _ (le-leb 1 (l .words) (s .some-word))
       (both-true _ _ (le-leb _ _ (s .few-words))
       (both-true _ _ (le-leb _ _ (s .few-nodes)) (eq-eqb _ _ (s .all-nodes))))))
 
@@ -31,7 +31,7 @@ module _ (positions : ℕ) (l : Level) where
       record {
         few-positions = leb-true _ _ (both-left _ _ e);
         few-actions = leb-true _ _ (both-left _ _ a);
-        some-word = leb-true 1 (l .power) (both-left _ _ b);
+        some-word = leb-true 1 (l .words) (both-left _ _ b);
         few-words = leb-true _ _ (both-left _ _ c);
         all-nodes = eqb-true _ _ (both-right _ _ d);
         few-nodes = leb-true _ _ (both-left _ _ d);
@@ -46,14 +46,14 @@ module _ (positions : ℕ) (l : Level) where
       (λ (e : isSized positions l ≡ false). sym e)
       (bool (isSized positions l))
 
-  pub sized-product : positions ≤ 256 → l .actions ≤ 8 → 1 ≤ l .power → l .power ≤ 16384 → l .nodes ≤ 16384
-      → eqb (l .nodes) (positions * l .power) ≡ isSized positions l
+  pub sized-product : positions ≤ 256 → l .actions ≤ 8 → 1 ≤ l .words → l .words ≤ 16384 → l .nodes ≤ 16384
+      → eqb (l .nodes) (positions * l .words) ≡ isSized positions l
   unfolding isSized
   sized-product a b c d e =
       sym
       (both-second _ _ (le-leb _ _ a)
       ∙ both-second _ _ (le-leb _ _ b)
-      ∙ both-second _ _ (le-leb 1 (l .power) c)
+      ∙ both-second _ _ (le-leb 1 (l .words) c)
       ∙ both-second _ _ (le-leb _ _ d)
       ∙ both-second _ _ (le-leb _ _ e))
 

@@ -18,11 +18,11 @@ use Rattle.theory.specs.Rounds.{bad, spoiltBy}
 use Rattle.theory.specs.Delay.{withWord, movedTo, playedTo, outcomes}
 use Rattle.theory.proofs.Fold.{bool, all-none, all-suc, all-done, below?, not-both, all-again, either-left, any-of-nil, any-of-cons, both-true, both-false, both-none, both-second, either-second, all-short, any-of-map, tabulate-none, tabulate-next}
 use Rattle.sheet.specs.Kinds.{kindAt, isSafe, safeAt}
-use Rattle.sheet.specs.Meant.{unmark}
+use Rattle.sheet.specs.SheetGame.{unmark}
 use Rattle.walk.specs.declared.level.Level.{Level}
 use Rattle.walk.specs.declared.walk.Choice.{Choice}
 use Rattle.walk.specs.View.{cellAt, toAt, tosBetween, viewOf, levelArena, arenaOf}
-use Rattle.walk.specs.Walks.{fallenBy, blockedAt, movesFrom, movesAfter, playedAt, choiceAt, outcomeBy, outcomeAt, Chosen}
+use Rattle.walk.specs.Walks.{fallenBy, blockedAt, movingFrom, movesAfter, playedAt, choiceAt, outcomeBy, outcomeAt, Chosen}
 
 -- targets, as the grid has them
 
@@ -65,7 +65,7 @@ fallen-marked n k marks z =
 
 -- the position after this one
 pub next-line : (f : List ℕ) (q : ℕ) {x y : ℕ} → x ≡ getD f q 0 → y ≡ getD f (q + 1) 0 → (h w : ℕ)
-    → record { blocked = false; action = h; rest = w; first = x; end = y } ≡ movesFrom f h w q
+    → record { blocked = false; action = h; rest = w; first = x; end = y } ≡ movingFrom f h w q
 next-line f q e d h w = rw (e, d, add-one q)
 
 pub ruleset leaves = (needs, target-past, target-no-action, target-in, fallen-past, fallen-none, fallen-marked, next-line)
@@ -89,16 +89,16 @@ module _ (p : List ℕ) (g : List (List ℕ)) (f : List ℕ) (l : Level) (q w c 
   joined = w * l .actions + c
 
   abbrev oldest : ℕ
-  oldest = joined / l .power
+  oldest = joined / l .words
 
   abbrev younger : ℕ
-  younger = joined % l .power
+  younger = joined % l .words
 
-  pub choose-odd : l .odd ≡ true → x ≡ movesFrom f oldest younger q → x .end < 65536 → 0 < l .power → Chosen p g f l q w c x
+  pub choose-odd : l .odd ≡ true → x ≡ movingFrom f oldest younger q → x .end < 65536 → 0 < l .words → Chosen p g f l q w c x
   unfolding choiceAt playedAt
   choose-odd o e n m = record { choice = rw o e; end-small = n; rest-word = rw e (mod-lt joined m) }
 
-  pub choose-absent : {t : ℕ} → l .odd ≡ false → unmark t ≡ cellAt g q oldest → t ≡ 256 → x ≡ blockedAt oldest younger → 0 < l .power
+  pub choose-absent : {t : ℕ} → l .odd ≡ false → unmark t ≡ cellAt g q oldest → t ≡ 256 → x ≡ blockedAt oldest younger → 0 < l .words
       → Chosen p g f l q w c x
   unfolding choiceAt playedAt movesAfter
   choose-absent {t} o u a e m =
@@ -109,7 +109,7 @@ module _ (p : List ℕ) (g : List (List ℕ)) (f : List ℕ) (l : Level) (q w c 
       }
 
   pub choose-unsafe : {t : ℕ} {r : Bool} → l .odd ≡ false → unmark t ≡ cellAt g q oldest → (t ≡ 256 → ⊥) → r ≡ safeAt p t → not r ≡ true
-      → x ≡ blockedAt oldest younger → 0 < l .power → Chosen p g f l q w c x
+      → x ≡ blockedAt oldest younger → 0 < l .words → Chosen p g f l q w c x
   unfolding choiceAt playedAt movesAfter
   choose-unsafe {t} {r} o u a s n e m =
       record {
@@ -119,7 +119,7 @@ module _ (p : List ℕ) (g : List (List ℕ)) (f : List ℕ) (l : Level) (q w c 
       }
 
   pub choose-even : {t : ℕ} {r : Bool} → l .odd ≡ false → unmark t ≡ cellAt g q oldest → (t ≡ 256 → ⊥) → r ≡ safeAt p t → not r ≡ false
-      → x ≡ movesFrom f oldest younger t → x .end < 65536 → 0 < l .power → Chosen p g f l q w c x
+      → x ≡ movingFrom f oldest younger t → x .end < 65536 → 0 < l .words → Chosen p g f l q w c x
   unfolding choiceAt playedAt movesAfter
   choose-even {t} {r} o u a s n e d m =
       record {
@@ -133,7 +133,7 @@ pub ruleset choosing = (needs, safe-small, choose-odd, choose-absent, choose-uns
 -- one line
 
 module _ (p : List ℕ) (g : List (List ℕ)) (u : List ℕ) (l : Level) (fallen : ℕ → Bool) (x : Choice) (line : ℕ) where
-  pub spoils-even : {b t : ℕ} {r : Bool} → not (l .odd) ≡ true → b ≡ getD u (2 * line + 1) 0 → t ≡ b → r ≡ fallen (t * l .power + x .rest)
+  pub spoils-even : {b t : ℕ} {r : Bool} → not (l .odd) ≡ true → b ≡ getD u (2 * line + 1) 0 → t ≡ b → r ≡ fallen (t * l .words + x .rest)
       → r ≡ bad fallen (outcomeAt p g l x (toAt u line))
   unfolding outcomeAt outcomeBy bad toAt
   spoils-even {b} {t} {r} o e d f = rw (not-true (l .odd) o, ← e, ← d) f
@@ -150,7 +150,7 @@ module _ (p : List ℕ) (g : List (List ℕ)) (u : List ℕ) (l : Level) (fallen
       rw (not-false (l .odd) o, ← e, ← d, ← a, not-false s n, ← m, unmark-absent z)
 
   pub spoils-odd : {b t q : ℕ} {s r : Bool} → not (l .odd) ≡ false → b ≡ getD u (2 * line + 1) 0 → t ≡ b → s ≡ safeAt p t
-      → not s ≡ false → unmark q ≡ cellAt g t (x .action) → (q ≡ 256 → ⊥) → r ≡ fallen (q * l .power + x .rest)
+      → not s ≡ false → unmark q ≡ cellAt g t (x .action) → (q ≡ 256 → ⊥) → r ≡ fallen (q * l .words + x .rest)
       → r ≡ bad fallen (outcomeAt p g l x (toAt u line))
   unfolding outcomeAt outcomeBy bad toAt withWord
   spoils-odd {b} {t} {q} {s} {r} o e d a n m z f =
@@ -192,34 +192,34 @@ module _ (p : List ℕ) (g : List (List ℕ)) (u f : List ℕ) (l : Level) (fall
   view = viewOf p g u f (l .start) (l .actions)
 
   odd-spoilt : (q h w : ℕ) → l .odd ≡ true
-      → anyOf (bad fallen) (map (movedTo view (l .power) h w) (view .moves q)) ≡ spoiltWith p g u l fallen (movesFrom f h w q)
+      → anyOf (bad fallen) (map (movedTo view (l .words) h w) (view .moves q)) ≡ spoiltWith p g u l fallen (movingFrom f h w q)
   unfolding spoiltWith spoiltFrom outcomeAt outcomeBy viewOf movedTo either
   odd-spoilt q h w o = rw o (any-of-map (bad fallen) _ _)
 
   even-spoilt : (h w : ℕ) (t : Target) → l .odd ≡ false
-      → anyOf (bad fallen) (playedTo view (l .power) w t) ≡ spoiltWith p g u l fallen (movesAfter p f h w t)
+      → anyOf (bad fallen) (playedTo view (l .words) w t) ≡ spoiltWith p g u l fallen (movesAfter p f h w t)
   unfolding spoiltWith spoiltFrom outcomeAt outcomeBy viewOf playedTo movesAfter either bad anyOf
   even-spoilt h w absent o = refl
   even-spoilt h w (to r) o =
       ⊎-elim
       (λ (s : safeAt p r ≡ true).
-      rw (s, o) (any-of-map (bad fallen) (λ r′. to (r′ * l .power + w)) (tosBetween u (getD f r 0) (getD f (suc r) 0))))
+      rw (s, o) (any-of-map (bad fallen) (λ r′. to (r′ * l .words + w)) (tosBetween u (getD f r 0) (getD f (suc r) 0))))
       (λ (s : safeAt p r ≡ false). rw s)
       (bool (safeAt p r))
 
   by-parity : (q j : ℕ) (b : Bool) → l .odd ≡ b
-      → anyOf (bad fallen) (outcomes b view (l .power) q j)
-      ≡ spoiltWith p g u l fallen (playedAt b p g f q (j / l .power) (j % l .power))
+      → anyOf (bad fallen) (outcomes b view (l .words) q j)
+      ≡ spoiltWith p g u l fallen (playedAt b p g f q (j / l .words) (j % l .words))
   unfolding outcomes playedAt viewOf
-  by-parity q j true o = odd-spoilt q (j / l .power) (j % l .power) o
-  by-parity q j false o = even-spoilt (j / l .power) (j % l .power) _ o
+  by-parity q j true o = odd-spoilt q (j / l .words) (j % l .words) o
+  by-parity q j false o = even-spoilt (j / l .words) (j % l .words) _ o
 
   -- theory's `spoiltBy`, by the choice that the code makes
-  pub chosen : (k c : ℕ) {x : Choice} → Chosen p g f l (k / l .power) (k % l .power) c x
+  pub chosen : (k c : ℕ) {x : Choice} → Chosen p g f l (k / l .words) (k % l .words) c x
       → spoiltBy (arenaOf p g u f l) fallen k c ≡ spoiltWith p g u l fallen x
   unfolding spoiltBy arenaOf levelArena viewOf choiceAt
   chosen k c {x} h =
-      by-parity (k / l .power) ((k % l .power) * l .actions + c) (l .odd) refl
+      by-parity (k / l .words) ((k % l .words) * l .actions + c) (l .odd) refl
       ∙ ap (spoiltWith p g u l fallen) (sym (h .choice))
 
 module _ (p : List ℕ) (g : List (List ℕ)) (u f : List ℕ) (l : Level) (fallen : ℕ → Bool) (k : ℕ) where
@@ -228,22 +228,22 @@ module _ (p : List ℕ) (g : List (List ℕ)) (u f : List ℕ) (l : Level) (fall
 
   -- one action
 
-  pub spoilt-blocked : (c : ℕ) {x : Choice} → Chosen p g f l (k / l .power) (k % l .power) c x → x .blocked ≡ true → true ≡ S c
+  pub spoilt-blocked : (c : ℕ) {x : Choice} → Chosen p g f l (k / l .words) (k % l .words) c x → x .blocked ≡ true → true ≡ S c
   unfolding spoiltWith
   spoilt-blocked c h b = sym (chosen p g u f l fallen k c h ∙ either-left _ _ b)
 
-  pub spoilt-open : (c : ℕ) {x : Choice} → Chosen p g f l (k / l .power) (k % l .power) c x → x .blocked ≡ false
+  pub spoilt-open : (c : ℕ) {x : Choice} → Chosen p g f l (k / l .words) (k % l .words) c x → x .blocked ≡ false
       → S c ≡ spoiltFrom p g u l fallen x (x .first)
   unfolding spoiltWith
   spoilt-open c h b = chosen p g u f l fallen k c h ∙ either-second _ _ b
 
   -- all actions: a blocked one is passed
 
-  pub walk-blocked : (c : ℕ) {x : Choice} → allBelow S c ≡ true → Chosen p g f l (k / l .power) (k % l .power) c x → x .blocked ≡ true
+  pub walk-blocked : (c : ℕ) {x : Choice} → allBelow S c ≡ true → Chosen p g f l (k / l .words) (k % l .words) c x → x .blocked ≡ true
       → allBelow S (c + 1) ≡ true
   walk-blocked c e h b = all-again S c e (spoilt-blocked c h b) refl
 
-  pub walk-open : (c : ℕ) {x : Choice} → allBelow S c ≡ true → Chosen p g f l (k / l .power) (k % l .power) c x → x .blocked ≡ false
+  pub walk-open : (c : ℕ) {x : Choice} → allBelow S c ≡ true → Chosen p g f l (k / l .words) (k % l .words) c x → x .blocked ≡ false
       → allBelow S (c + 1) ≡ spoiltFrom p g u l fallen x (x .first)
   walk-open c e h b = rw (add-one c, all-suc S c) (both-second _ _ e ∙ spoilt-open c h b)
 

@@ -11,9 +11,9 @@ use Rattle.walk.specs.declared.level.Level.{Level}
 pub record Sized (positions : ℕ) (l : Level) : Type 0 where
   pub few-positions : positions ≤ mostPositions
   pub few-actions : l .actions ≤ mostActions
-  pub some-word : 0 < l .power
-  pub few-words : l .power ≤ mostNodes
-  pub all-nodes : l .nodes ≡ positions * l .power
+  pub some-word : 0 < l .words
+  pub few-words : l .words ≤ mostNodes
+  pub all-nodes : l .nodes ≡ positions * l .words
   pub few-nodes : l .nodes ≤ mostNodes
 
 -- the same as a test
@@ -21,10 +21,10 @@ unfoldable pub isSized : ℕ → Level → Bool
 isSized positions l =
     both (leb positions mostPositions)
     (both (leb (l .actions) mostActions)
-    (both (leb 1 (l .power))
-    (both (leb (l .power) mostNodes)
+    (both (leb 1 (l .words))
+    (both (leb (l .words) mostNodes)
     (both (leb (l .nodes) mostNodes)
-    (eqb (l .nodes) (positions * l .power))))))
+    (eqb (l .nodes) (positions * l .words))))))
 
 -- k is the number of a pair of that level
 unfoldable pub isNode : ℕ → Level → ℕ → Bool

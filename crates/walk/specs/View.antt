@@ -11,7 +11,7 @@ use Rattle.theory.specs.Rounds.{Arena}
 use Rattle.theory.specs.Delay.{onRight, outcomes}
 use Rattle.sheet.specs.Limits.{mostPositions, mostActions}
 use Rattle.sheet.specs.Kinds.{controllerAt, safeAt}
-use Rattle.sheet.specs.Meant.{unmark}
+use Rattle.sheet.specs.SheetGame.{unmark}
 use Rattle.walk.specs.declared.level.Level.{Level}
 
 -- what the grid says of position q and action x. Like the code it reads an entry past the end as 0, so it needs no row's length
@@ -50,4 +50,4 @@ levelArena G odd m =
     }
 
 unfoldable pub arenaOf : List ℕ → List (List ℕ) → List ℕ → List ℕ → Level → Arena
-arenaOf p g u f l = levelArena (viewOf p g u f (l .start) (l .actions)) (l .odd) (l .power)
+arenaOf p g u f l = levelArena (viewOf p g u f (l .start) (l .actions)) (l .odd) (l .words)

@@ -18,8 +18,8 @@ unfoldable pub fallenBy : ℕ → List ℕ → ℕ → Bool
 fallenBy n marks k = both (ltb 0 (getD marks k 0)) (leb (getD marks k 0) n)
 
 -- action h is played, the word w is pending after it, and the environment moves from q
-abbrev pub movesFrom : List ℕ → ℕ → ℕ → ℕ → Choice
-movesFrom f h w q = record { blocked = false; action = h; rest = w; first = getD f q 0; end = getD f (suc q) 0 }
+abbrev pub movingFrom : List ℕ → ℕ → ℕ → ℕ → Choice
+movingFrom f h w q = record { blocked = false; action = h; rest = w; first = getD f q 0; end = getD f (suc q) 0 }
 
 abbrev pub blockedAt : ℕ → ℕ → Choice
 blockedAt h w = record { blocked = true; action = h; rest = w; first = 0; end = 0 }
@@ -27,16 +27,16 @@ blockedAt h w = record { blocked = true; action = h; rest = w; first = 0; end = 
 -- even delays: h has this target
 unfoldable pub movesAfter : List ℕ → List ℕ → ℕ → ℕ → Target → Choice
 movesAfter p f h w absent = blockedAt h w
-movesAfter p f h w (to q) = cond (safeAt p q) (movesFrom f h w q) (blockedAt h w)
+movesAfter p f h w (to q) = cond (safeAt p q) (movingFrom f h w q) (blockedAt h w)
 
 -- by parity (true: odd), at position q
 unfoldable pub playedAt : Bool → List ℕ → List (List ℕ) → List ℕ → ℕ → ℕ → ℕ → Choice
-playedAt true p g f q h w = movesFrom f h w q
+playedAt true p g f q h w = movingFrom f h w q
 playedAt false p g f q h w = movesAfter p f h w (cellAt g q h)
 
 -- at position q with the joined word j, whose oldest action is played
 unfoldable pub choiceAt : List ℕ → List (List ℕ) → List ℕ → Level → ℕ → ℕ → Choice
-choiceAt p g f l q j = playedAt (l .odd) p g f q (j / l .power) (j % l .power)
+choiceAt p g f l q j = playedAt (l .odd) p g f q (j / l .words) (j % l .words)
 
 -- the outcome, by parity, of the environment's move to r
 unfoldable pub outcomeBy : Bool → List ℕ → List (List ℕ) → ℕ → ℕ → ℕ → ℕ → Target
@@ -44,10 +44,10 @@ outcomeBy true p g m h w r = cond (safeAt p r) (withWord m w (cellAt g r h)) abs
 outcomeBy false p g m h w r = to (r * m + w)
 
 unfoldable pub outcomeAt : List ℕ → List (List ℕ) → Level → Choice → ℕ → Target
-outcomeAt p g l x r = outcomeBy (l .odd) p g (l .power) (x .action) (x .rest) r
+outcomeAt p g l x r = outcomeBy (l .odd) p g (l .words) (x .action) (x .rest) r
 
 -- what choosing action c at position q with the pending word w gives
 pub record Chosen (p : List ℕ) (g : List (List ℕ)) (f : List ℕ) (l : Level) (q w c : ℕ) (x : Choice) : Type 0 where
   pub choice : x ≡ choiceAt p g f l q (w * l .actions + c)
   pub end-small : x .end < 65536
-  pub rest-word : x .rest < l .power
+  pub rest-word : x .rest < l .words

@@ -5,11 +5,11 @@ use sheet::limits::ROW;
 ghost use mathlib.Core.Path.{_≡_};
 ghost use Rattle.walk.specs.Nodes.{isSized, isNode};
 
-// power: the number of pending words. A node is a position times power, plus its pending word.
+// words: the number of pending words. A node is a position times power, plus its pending word.
 pub struct Level {
     pub start: usize,
     pub actions: usize,
-    pub power: usize,
+    pub words: usize,
     pub odd: bool,
     pub nodes: usize,
 }
@@ -24,16 +24,16 @@ pub fn is_sized(positions: usize, level: Level) -> bool
     if ROW < level.actions {
         return false;
     }
-    if level.power < 1 {
+    if level.words < 1 {
         return false;
     }
-    if MOST_NODES < level.power {
+    if MOST_NODES < level.words {
         return false;
     }
     if MOST_NODES < level.nodes {
         return false;
     }
-    level.nodes == positions * level.power
+    level.nodes == positions * level.words
 }
 
 pub(crate) fn is_node(positions: usize, level: Level, k: usize) -> bool

@@ -11,10 +11,10 @@ ghost use lib.Dec.{ltb};
 ghost use lib.ListN.{length, getD};
 ghost use Rattle.theory.specs.Fold.{both, allBelow};
 ghost use Rattle.theory.specs.Rounds.{bad, spoiltBy};
-ghost use Rattle.sheet.specs.Meant.{unmark};
+ghost use Rattle.sheet.specs.SheetGame.{unmark};
 ghost use Rattle.walk.specs.View.{cellAt, toAt, arenaOf};
 ghost use Rattle.walk.specs.Nodes.{Sized, isNode};
-ghost use Rattle.walk.specs.Walks.{fallenBy, blockedAt, movesFrom, outcomeAt, Chosen};
+ghost use Rattle.walk.specs.Walks.{fallenBy, blockedAt, movingFrom, outcomeAt, Chosen};
 
 // The mark of an absent target.
 pub const ABSENT: usize = 256;
@@ -82,7 +82,7 @@ fn blocked(action: usize, rest: usize) -> Choice
 // The environment moves from q.
 fn moves_from(firsts: &[u16; 257], action: usize, rest: usize, q: usize) -> Choice
     requires { ⌜ q < 256 ⌝ }
-    ensures { λ r. ⌜ (r ≡ movesFrom (now (firsts .entry)) action rest q) × (r .end < 65536) ⌝ }
+    ensures { λ r. ⌜ (r ≡ movingFrom (now (firsts .entry)) action rest q) × (r .end < 65536) ⌝ }
 {
     Choice {
         blocked: false,
@@ -103,12 +103,12 @@ fn choose(
     w: usize,
     c: usize,
 ) -> Choice
-    requires { ⌜ (Sized (length (now p)) level) × (q < 256) × (w < level .power) × (c < level .actions) ⌝ }
+    requires { ⌜ (Sized (length (now p)) level) × (q < 256) × (w < level .words) × (c < level .actions) ⌝ }
     ensures { λ r. ⌜ Chosen (now (p .entry)) (now (grid .entry)) (now (firsts .entry)) level q w c r ⌝ }
 {
     let joined = w * level.actions + c;
-    let action = joined / level.power;
-    let rest = joined % level.power;
+    let action = joined / level.words;
+    let rest = joined % level.words;
     if level.odd {
         return moves_from(firsts, action, rest, q);
     }
@@ -133,12 +133,12 @@ fn spoils(
     x: Choice,
     line: usize,
 ) -> bool
-    requires { ⌜ (level .power ≤ 65536) × (x .rest < level .power) × (line < 65536) ⌝ }
+    requires { ⌜ (level .words ≤ 65536) × (x .rest < level .words) × (line < 65536) ⌝ }
     ensures { λ r. ⌜ r ≡ bad (fallenBy n (now (marks .entry))) (outcomeAt (now (p .entry)) (now (grid .entry)) level x (toAt (now (u .entry)) line)) ⌝ }
 {
     let to = wide(byte(u, 2 * line + 1));
     if !level.odd {
-        return fallen(marks, n, to * level.power + x.rest);
+        return fallen(marks, n, to * level.words + x.rest);
     }
     if !safe_at(p, to) {
         return true;
@@ -147,7 +147,7 @@ fn spoils(
     if reached == ABSENT {
         return true;
     }
-    fallen(marks, n, reached * level.power + x.rest)
+    fallen(marks, n, reached * level.words + x.rest)
 }
 
 // Is action c spoilt at node k, which exists?
@@ -165,7 +165,7 @@ fn spoilt_at(
     requires { ⌜ (Sized (length (now p)) level) × (k < level .nodes) × (c < level .actions) ⌝ }
     ensures { λ r. ⌜ r ≡ spoiltBy (arenaOf (now (p .entry)) (now (grid .entry)) (now (u .entry)) (now (firsts .entry)) level) (fallenBy n (now (marks .entry))) k c ⌝ }
 {
-    let x = choose(p, grid, firsts, level, k / level.power, k % level.power, c);
+    let x = choose(p, grid, firsts, level, k / level.words, k % level.words, c);
     if x.blocked {
         return true;
     }
@@ -181,7 +181,7 @@ fn spoilt_at(
 
 // Is every action spoilt at node k, which exists? The inner loop leaves for the next action at the first spoiling line; an action
 // whose lines all pass ends the walk.
-fn doomed_at(
+fn all_spoilt_at(
     p: &[u8],
     grid: &[[u16; 8]; 256],
     u: &[u8],
@@ -194,8 +194,8 @@ fn doomed_at(
     requires { ⌜ (Sized (length (now p)) level) × (k < level .nodes) ⌝ }
     ensures { λ r. ⌜ r ≡ allBelow (spoiltBy (arenaOf (now (p .entry)) (now (grid .entry)) (now (u .entry)) (now (firsts .entry)) level) (fallenBy n (now (marks .entry))) k) (level .actions) ⌝ }
 {
-    let q = k / level.power;
-    let w = k % level.power;
+    let q = k / level.words;
+    let w = k % level.words;
     let mut c: usize = 0;
     let all = 'actions: loop {
         if level.actions <= c {
@@ -243,8 +243,8 @@ pub fn spoilt(
     spoilt_at(p, grid, u, firsts, level, marks, n, k, c)
 }
 
-// Is every action spoilt at node k? A node that does not exist is not doomed.
-pub fn doomed(
+// Is every action spoilt at node k? A node that does not exist is not all_spoilt.
+pub fn all_spoilt(
     p: &[u8],
     grid: &[[u16; 8]; 256],
     u: &[u8],
@@ -259,5 +259,5 @@ pub fn doomed(
     if !is_node(p.len(), level, k) {
         return false;
     }
-    doomed_at(p, grid, u, firsts, level, marks, n, k)
+    all_spoilt_at(p, grid, u, firsts, level, marks, n, k)
 }

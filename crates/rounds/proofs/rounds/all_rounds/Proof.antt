@@ -5,7 +5,7 @@ use mathlib.Core.Path.{_≡_}
 use lib.ListN.{length}
 use Rattle.theory.specs.Rounds.{ranksAfter}
 use Rattle.walk.specs.View.{arenaOf}
-use Rattle.rounds.specs.Strikes.{lastRound}
+use Rattle.rounds.specs.Falling.{lastRound}
 use Rattle.rounds.proofs.RoundLaws.{standing, allRounds}
 use Rattle.rounds.proofs.rounds.all_rounds.Statement.{statement}
 use Rattle.rounds.proofs.rounds.all_rounds.Tie as tie

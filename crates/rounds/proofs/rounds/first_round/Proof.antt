@@ -2,7 +2,7 @@
 use Prim.Native.Nat.{_-_, _≤_}
 use mathlib.Core.Path.{_≡_}
 use lib.ListN.{length}
-use Rattle.rounds.specs.Strikes.{firstRank}
+use Rattle.rounds.specs.Falling.{firstRank}
 use Rattle.rounds.proofs.Filling.{filled}
 use Rattle.rounds.proofs.RoundLaws.{filling}
 use Rattle.rounds.proofs.rounds.first_round.Statement.{statement}

@@ -7,9 +7,9 @@ use lib.ListN.{length, length-set}
 use Rattle.theory.specs.Fold.{anyBelow}
 use Rattle.theory.specs.Rounds.{rankIn}
 use Rattle.walk.specs.View.{arenaOf}
-use Rattle.rounds.specs.Strikes.{strikes}
+use Rattle.rounds.specs.Falling.{fallsNext}
 use Rattle.rounds.proofs.Filling.{filled}
-use Rattle.rounds.proofs.RoundLaws.{round-struck, round-kept, any-struck, any-kept, rounding}
+use Rattle.rounds.proofs.RoundLaws.{round-fell, round-kept, any-fell, any-kept, rounding}
 use Rattle.rounds.proofs.rounds.round.Statement.{statement}
 use Rattle.rounds.proofs.rounds.round.Tie as tie
 
@@ -18,7 +18,7 @@ Inv-loop p grid u firsts level ranks₀ n any₀ k₀ ranks any k =
     (k ≤ level .nodes)
     × (length ranks ≡ length ranks₀)
     × (ranks ≡ filled (rankIn (arenaOf p grid u firsts level) n ranks₀) k ranks₀)
-    × (any ≡ anyBelow (strikes (arenaOf p grid u firsts level) n ranks₀) k)
+    × (any ≡ anyBelow (fallsNext (arenaOf p grid u firsts level) n ranks₀) k)
 
 abbrev μ-loop : tie.MeasureT-loop
 μ-loop p grid u firsts level ranks₀ n any₀ k₀ ranks any k = level .nodes - k
@@ -27,13 +27,13 @@ loop-again : tie.Need-loop-again Inv-loop μ-loop
 loop-again c =
     let i = c .before .before .before .before .before .before .before .before .before .pre in
     let v = c .before .before .before .before .before .loop .inv in
-    let r = c .before .struck .ensures in
+    let r = c .before .falls-now .ensures in
     ⊎-elim
     (λ w. (
       omega arith,
       ap length (w .1) ∙ simp length-set (v .1),
-      w .1 ∙ round-struck _ _ _ _ (i .2) (i .3) (v .2) r (w .0 .taken) (omega arith),
-      w .2 ∙ any-struck _ _ _ _ (i .2) (i .3) (v .2) r (w .0 .taken),
+      w .1 ∙ round-fell _ _ _ _ (i .2) (i .3) (v .2) r (w .0 .taken) (omega arith),
+      w .2 ∙ any-fell _ _ _ _ (i .2) (i .3) (v .2) r (w .0 .taken),
     ))
     (λ w. (
       omega arith,

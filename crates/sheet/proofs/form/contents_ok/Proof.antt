@@ -22,9 +22,9 @@ loop-again : tie.Need-loop-again Inv-loop μ-loop
 loop-again c =
     let turn = c .before .before .before .before .before .before .before .loop .inv in (
       search needs,
-      entries-again _ _ _ _ _ (turn .1) (c .before .before .before .if2 .left) (turn .2) (c .before .before .word .ensures .0)
+      entries-again _ _ _ _ _ (turn .1) (c .before .before .before .if2 .left) (turn .2) (c .before .before .two-bytes .ensures .0)
           (c .before .if3 .left),
-      place-again _ _ _ _ _ (turn .2) (c .word2 .ensures .0),
+      place-again _ _ _ _ _ (turn .2) (c .two-bytes2 .ensures .0),
     )
 
 pub contents-ok-spec : {M : Type 1} → statement M

@@ -1,3 +1,0 @@
--- The theorems.
-pub mod Accuracy
-pub mod Cases

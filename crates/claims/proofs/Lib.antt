@@ -1,0 +1,4 @@
+-- The theorems: demand 2 and demand 3 over bytes, and the starred cases.
+pub mod Demand2
+pub mod Accuracy
+pub mod Cases

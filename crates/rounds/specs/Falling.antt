@@ -1,0 +1,52 @@
+-- One round over the solver's arrays, and what all rounds leave. Assumes nothing.
+use Prim.Native.Nat.{ℕ, _/_, _≤_, max}
+use mathlib.Core.Path.{_≡_}
+use mathlib.Core.Bool.{Bool, true, false, not, cond}
+use mathlib.Core.List.{List, [], _∷_}
+use lib.Dec.{eqb}
+use lib.ListN.{getD}
+use Rattle.theory.specs.Fold.{both, allBelow, tabulate}
+use Rattle.theory.specs.Rounds.{Arena, spoiltBy, fell, falls, rankIn, finalRanks}
+use Rattle.sheet.specs.Kinds.{controllerAt, safeAt}
+use Rattle.walk.specs.declared.level.Level.{Level}
+use Rattle.walk.specs.Nodes.{isSized}
+use Rattle.walk.specs.Walks.{fallenBy}
+
+-- "For even d the position is own, for odd d yard"
+unfoldable pub rightAt : Bool → List ℕ → ℕ → Bool
+rightAt true p q = not (controllerAt p q)
+rightAt false p q = controllerAt p q
+
+-- a node's rank after round 1
+unfoldable pub firstRank : List ℕ → Level → ℕ → ℕ
+firstRank p l k = cond (both (rightAt (l .odd) p (k / l .words)) (not (safeAt p (k / l .words)))) 1 0
+
+-- node k, without a rank yet, falls to the nodes of rank 1 to n
+unfoldable pub fallsTo : Arena → ℕ → List ℕ → ℕ → Bool
+fallsTo E n ranks k =
+    both (eqb (getD ranks k 0) 0) (both (E .right k) (allBelow (spoiltBy E (fallenBy n ranks) k) (E .actions)))
+
+-- node k falls in round n + 1, ranks being those after round n
+unfoldable pub fallsNext : Arena → ℕ → List ℕ → ℕ → Bool
+fallsNext E n ranks k = both (not (fell ranks k)) (both (E .right k) (falls E n ranks k))
+
+unfoldable pub nextRanks : Arena → ℕ → List ℕ → List ℕ
+nextRanks E n ranks = tabulate (rankIn E n ranks) 0 (E .nodes)
+
+-- no rank is over n
+abbrev pub AtMost : ℕ → List ℕ → Type 0
+AtMost n ranks = (k : ℕ) → getD ranks k 0 ≤ n
+
+-- the last round in which a node fell, or round 1
+unfoldable pub lastRound : List ℕ → ℕ
+lastRound [] = 1
+lastRound (r ∷ ranks) = max r (lastRound ranks)
+
+-- a level that is small, and a buffer with an entry for each of its nodes
+unfoldable pub isFitted : ℕ → Level → ℕ → Bool
+isFitted positions l entries = both (isSized positions l) (eqb entries (l .nodes))
+
+-- what all rounds leave, and the number of the last; nothing changed and 0 where level and buffer don't fit
+unfoldable pub Ranked : Bool → Arena → List ℕ → List ℕ → ℕ → Type 0
+Ranked true E before after n = (after ≡ finalRanks E) × (n ≡ lastRound after)
+Ranked false E before after n = (after ≡ before) × (n ≡ 0)
