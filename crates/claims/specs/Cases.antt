@@ -63,7 +63,7 @@ unfoldable pub playsBy : List ℕ → ℕ → Made → Case
 playsBy s n (won t) = plays s n (positionsOf (gameOf s) (playOf (exactPlay (gameOf s) (decode t) (lastMove (gameOf s)) n)))
 playsBy s n (lost m t) = plays s n []
 
--- the case with what the definitions some
+-- the case with what the definitions give
 unfoldable pub computed : Case → Answer Case
 computed (solves s r) =
     onAccepted (solveAnswer s mostNodes mostNodes)

@@ -1,4 +1,4 @@
--- One round in place, and all rounds (specs/Falling.antt). A node struck in a round counts as fallen only in the next, since its
+-- One round in place, and all rounds (specs/Falling.antt). A node that falls in a round counts as fallen only in the next, since its
 -- rank is over n; so the half-updated list and the list at the round's start say the same. Assumes nothing.
 use Prim.Native.Nat.{ℕ, zero, suc, _+_, _*_, _/_, _≤_, _<_}
 use mathlib.Core.Path.{_≡_, refl, sym, _∙_, ap, fun-ext}

@@ -60,7 +60,7 @@ module _ {positions actions delay : ℕ} (room : Room positions actions delay) w
       record { fits = rw g (omega arith) }
 
   pub level-is : (start : ℕ) {s a d w : ℕ} → s ≡ start → a ≡ actions → d ≡ delay → w ≡ powerTo actions (d / 2)
-      → record { start = s; actions = a; power = w; odd = eqb (delay % 2) 1; nodes = positions * w } ≡ levelAt positions start actions delay
+      → record { start = s; actions = a; words = w; odd = eqb (delay % 2) 1; nodes = positions * w } ≡ levelAt positions start actions delay
   unfolding odd nodesOf
   level-is start {s} {a} {d} {w} es ea ed ew = rw (es, ea, ew, ed, power-whole)
 

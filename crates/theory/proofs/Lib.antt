@@ -16,4 +16,5 @@ pub mod OurTable
 pub mod NodeStrategy
 pub mod Monotone
 pub mod Exact
+pub mod Computing
 pub mod Cases

@@ -5,7 +5,7 @@ use sheet::limits::ROW;
 ghost use mathlib.Core.Path.{_≡_};
 ghost use Rattle.walk.specs.Nodes.{isSized, isNode};
 
-// words: the number of pending words. A node is a position times power, plus its pending word.
+// words: the number of pending words. A node is a position times words, plus its pending word.
 pub struct Level {
     pub start: usize,
     pub actions: usize,

@@ -243,7 +243,7 @@ pub fn spoilt(
     spoilt_at(p, grid, u, firsts, level, marks, n, k, c)
 }
 
-// Is every action spoilt at node k? A node that does not exist is not all_spoilt.
+// Is every action spoilt at node k? A node that does not exist: no.
 pub fn all_spoilt(
     p: &[u8],
     grid: &[[u16; 8]; 256],

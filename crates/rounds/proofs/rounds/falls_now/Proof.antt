@@ -1,4 +1,4 @@
--- `struck` meets its contract. Assumes nothing.
+-- `falls_now` meets its contract. Assumes nothing.
 use Rattle.rounds.proofs.RoundLaws.{striking}
 use Rattle.rounds.proofs.rounds.falls_now.Statement.{statement}
 use Rattle.rounds.proofs.rounds.falls_now.Tie as tie
