@@ -180,7 +180,7 @@ module _ (E : Arena) (n : ℕ) (old : List ℕ) where
         ← falls-later E n old k some,
       )
 
-  -- a struck node gets the round's rank, another keeps its own
+  -- a node that falls gets the round's rank, another keeps its own
 
   rank-fell : (k : ℕ) → fallsNext E n old k ≡ true → n + 1 ≡ rankIn E n old k
   unfolding fallsNext
@@ -283,7 +283,7 @@ module _ (E : Arena) (n : ℕ) {ranks : List ℕ} (e : ranks ≡ ranksAfter E n)
       ∙ ap (λ (l : List ℕ). tabulate (rankIn E n l) 0 (E .nodes)) e
       ∙ sym (rw (add-one n) (after-suc E n))
 
-  -- a round in which nothing is struck is the last
+  -- a round in which nothing falls is the last
 
   same-ranks : anyBelow (fallsNext E n ranks) (E .nodes) ≡ false → nextRanks E n ranks ≡ ranks
   unfolding nextRanks
@@ -306,7 +306,7 @@ module _ (E : Arena) (n : ℕ) {ranks : List ℕ} (e : ranks ≡ ranksAfter E n)
   pub final-most : {now : List ℕ} → 1 ≤ n → now ≡ nextRanks E n ranks → anyBelow (fallsNext E n ranks) (E .nodes) ≡ false → AtMost n now
   final-most h d a k = rw (d ∙ same-ranks a) (ranked-most k)
 
-  -- a round in which a node is struck leaves fewer standing
+  -- a round in which a node falls leaves fewer standing
 
   falls-stands : (k : ℕ) → fallsNext E n ranks k ≡ true → fell ranks k ≡ false
   unfolding fallsNext
@@ -372,7 +372,7 @@ module _ (p : List ℕ) (g : List (List ℕ)) (u f : List ℕ) (l : Level) (s : 
   pub rounds-final : 1 ≤ n → not r ≡ true → now ≡ finalRanks (arenaOf p g u f l)
   rounds-final h t = ranked-final (arenaOf p g u f l) n e h d (falls-here ∙ not-true r t)
 
-  -- the number of a round in which a node is struck is reached, and the last one's is the largest
+  -- the number of a round in which a node falls is reached, and the last one's is the largest
   pub rounds-reach : not r ≡ false → n + 1 ≤ lastRound now
   rounds-reach t =
       let E = arenaOf p g u f l in

@@ -72,7 +72,7 @@ fn falls_now(
     all_spoilt(p, grid, u, firsts, level, ranks, n, k)
 }
 
-// Round n + 1, after n rounds. A node struck now has rank n + 1, so it does not count as fallen until the next round. Says
+// Round n + 1, after n rounds. A node that falls now has rank n + 1, so it does not count as fallen until the next round. Says
 // whether a node fell.
 fn round(
     p: &[u8],

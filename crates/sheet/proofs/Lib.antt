@@ -7,4 +7,5 @@ pub mod ReadLaws
 pub mod GridLaws
 pub mod Accepted
 pub mod Legality
+pub mod Computing
 pub mod Cases

@@ -6,4 +6,4 @@ pub mod Kinds
 pub mod Checks
 pub mod Reading
 pub mod SheetGame
-pub mod Cases
+pub mod cases

@@ -3,4 +3,4 @@ pub mod Levels
 pub mod Kept
 pub mod Solving
 pub mod Flags
-pub mod Cases
+pub mod cases

@@ -5,3 +5,4 @@ pub mod Fields
 pub mod Lines
 pub mod Sizes
 mod Cases
+pub mod Computing

@@ -1,7 +1,7 @@
--- Every case of specs/Cases.antt holds of the definitions, by computation. Assumes nothing.
+-- Every case of specs/cases/Games.antt holds of the definitions, by computation. Assumes nothing.
 use mathlib.Core.Path.{_≡_, refl}
 use mathlib.Core.List.{map}
-use Rattle.theory.specs.Cases.{targetFrom, movesFrom, gameFrom, resultBy, resultOf, passing, chosen, slow, chained, turned, cases}
+use Rattle.theory.specs.cases.Games.{targetFrom, movesFrom, gameFrom, resultBy, resultOf, passing, chosen, slow, chained, turned, cases}
 use Rattle.theory.proofs.Computing.{theory-computes}
 
 pub cases-met : map (λ c. resultOf (c .game) (c .delay)) cases ≡ map (λ c. c .result) cases

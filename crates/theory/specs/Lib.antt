@@ -12,4 +12,4 @@ pub mod Rounds
 pub mod Delay
 pub mod Table
 pub mod Exact
-pub mod Cases
+pub mod cases

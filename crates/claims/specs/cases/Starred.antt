@@ -1,5 +1,5 @@
 -- Document 01's starred cases ("Yards to try"), of solving and of the cabin, and cases of our own for the cabin that catch what those
--- leave: one table, over bytes. Cases of our own for the rounds are in theory/specs/Cases.antt. Assumes nothing.
+-- leave: one table, over bytes. Cases of our own for the rounds are in theory/specs/cases/Games.antt. Assumes nothing.
 use Prim.Native.Nat.{ℕ, suc, _-_}
 use mathlib.Core.List.{List, [], _∷_, _++_}
 use lib.ListN.{length, getD}
@@ -10,18 +10,14 @@ use Rattle.theory.specs.Play.{Play, last, index, back, Rule}
 use Rattle.theory.specs.Rounds.{finalRanks, masks}
 use Rattle.theory.specs.Delay.{Verdict, wins, losing, arena, flags}
 use Rattle.theory.specs.Exact.{playOf}
-use Rattle.sheet.specs.Limits.{width, mostNodes}
+use Rattle.sheet.specs.Limits.{mostNodes}
 use Rattle.sheet.specs.Reading.{delayOf}
 use Rattle.sheet.specs.SheetGame.{gameOf}
+use Rattle.sheet.specs.cases.Yards.{sheetWith, guess, splitGate, loop, hall}
 use Rattle.solver.specs.Solving.{solveAnswer}
-use Rattle.sheet.specs.Form.{part, sheetOf}
 use Rattle.table.specs.TableSheet.{decode}
 use Rattle.maker.specs.Making.{Made, won, lost, makeAnswer}
 use Rattle.controller.specs.Accuracy.{Call, observe, act, Response, accepts, acts, refuses, Progress, begun, reply, callStep, exactPlay}
-
--- a game sheet from its S, P, C and U bodies
-unfoldable pub sheetWith : List ℕ → List ℕ → List ℕ → List ℕ → List ℕ
-sheetWith s p c u = sheetOf width (part 83 s ∷ part 80 p ∷ part 67 c ∷ part 85 u ∷ [])
 
 -- winning: the first words' flags and the masks; losing at m: the ranks there
 pub data Result : Type 0 where
@@ -70,27 +66,6 @@ computed (solves s r) =
     (λ a. accepted (solves s (resultBy (gameOf s) (delayOf s) (a .verdict))))
 computed (answers s calls r) = onAccepted (makeAnswer s mostNodes mostNodes outputRoom) (λ m. accepted (answersBy s calls m))
 computed (plays s n r) = onAccepted (makeAnswer s mostNodes mostNodes outputRoom) (λ m. accepted (playsBy s n m))
-
--- the guess yard, and "with P 1 0 2 3"
-unfoldable pub guess : ℕ → ℕ → List ℕ
-guess first d =
-    sheetWith (0 ∷ 2 ∷ d ∷ []) (first ∷ 0 ∷ 2 ∷ 3 ∷ []) (0 ∷ 0 ∷ 2 ∷ 0 ∷ 1 ∷ 3 ∷ 1 ∷ 0 ∷ 3 ∷ 1 ∷ 1 ∷ 2 ∷ [])
-    (2 ∷ 0 ∷ 2 ∷ 1 ∷ 3 ∷ 0 ∷ [])
-
--- the split gate
-unfoldable pub splitGate : ℕ → List ℕ
-splitGate d = sheetWith (0 ∷ 2 ∷ d ∷ []) (0 ∷ 0 ∷ 2 ∷ []) (0 ∷ 0 ∷ 2 ∷ 1 ∷ 1 ∷ 2 ∷ []) (2 ∷ 0 ∷ 2 ∷ 1 ∷ [])
-
--- the loop
-unfoldable pub loop : ℕ → List ℕ
-loop d = sheetWith (0 ∷ 1 ∷ d ∷ []) (0 ∷ 2 ∷ []) (0 ∷ 0 ∷ 1 ∷ []) (1 ∷ 0 ∷ [])
-
--- the sorting hall
-unfoldable pub hall : ℕ → List ℕ
-hall d =
-    sheetWith (0 ∷ 2 ∷ d ∷ []) (0 ∷ 0 ∷ 0 ∷ 0 ∷ 2 ∷ 2 ∷ 2 ∷ [])
-    (0 ∷ 0 ∷ 4 ∷ 0 ∷ 1 ∷ 4 ∷ 1 ∷ 0 ∷ 5 ∷ 1 ∷ 1 ∷ 5 ∷ 2 ∷ 0 ∷ 6 ∷ 3 ∷ 1 ∷ 6 ∷ [])
-    (4 ∷ 2 ∷ 5 ∷ 3 ∷ 6 ∷ 0 ∷ 6 ∷ 1 ∷ [])
 
 -- of our own: an action must not be the one before it. So the word matters, and its order
 unfoldable pub alternating : ℕ → List ℕ

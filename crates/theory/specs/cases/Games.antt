@@ -1,5 +1,5 @@
 -- Games of our own with their results, which catch wrong rounds that document 01's starred yards let pass (those are in
--- accuracy/specs/Cases.antt, over bytes). Games are written as P, C and U bodies. Assumes nothing.
+-- claims/specs/cases/Starred.antt, over bytes). Games are written as P, C and U bodies. Assumes nothing.
 use Prim.Native.Nat.{ℕ, _%_}
 use mathlib.Core.Bool.{cond}
 use mathlib.Core.List.{List, [], _∷_}
@@ -77,8 +77,8 @@ unfoldable pub turned : Game
 turned = gameFrom 2 (0 ∷ 0 ∷ 1 ∷ 2 ∷ 2 ∷ []) (0 ∷ 0 ∷ 4 ∷ 1 ∷ 0 ∷ 3 ∷ 1 ∷ 1 ∷ 4 ∷ 2 ∷ 0 ∷ 3 ∷ []) (3 ∷ 2 ∷ 4 ∷ 0 ∷ 4 ∷ 1 ∷ [])
 
 -- what each catches: `passing` at 3 a safety test left out on the own position passed and first words of the wrong length, and beside 2
--- and 4 a delay taken for its neighbour; `chosen` an action tested where it is chosen; `slow`, `struck` and `turned` nodes struck only
--- once and ranks that follow the order of visiting, `struck` at 1 the asked delay named in the place of the least
+-- and 4 a delay taken for its neighbour; `chosen` an action tested where it is chosen; `slow`, `chained` and `turned` nodes removed only
+-- once and ranks that follow the order of visiting, `chained` at 1 the asked delay named in the place of the least
 unfoldable pub cases : List Case
 cases =
     (case passing 2 (won (1 ∷ 0 ∷ []) (1 ∷ 0 ∷ 0 ∷ 0 ∷ 0 ∷ 0 ∷ 0 ∷ 0 ∷ [])))

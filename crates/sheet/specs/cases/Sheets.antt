@@ -1,57 +1,38 @@
--- Sheets with the answers that document 01 gives them, and what the guess yard means: the table that proofs/Cases.antt computes.
+-- Sheets with the answers that document 01 gives them: the table that proofs/Cases.antt computes.
 -- Not here, for their size, but run by tests/solving.rs (limits_of_size): sheets of 4,096 and 4,097 moves, and of 256 positions with
 -- A 8, which pass 7 at lag 4 and don't at lag 6. Assumes nothing.
-use Prim.Native.Nat.{ℕ, zero, suc, _+_, _/_, _%_}
+use Prim.Native.Nat.{ℕ, zero, suc, _+_}
 use mathlib.Core.List.{List, [], _∷_, _++_}
-use lib.ListN.{length, take, drop, set, replicate}
+use lib.ListN.{take, set, replicate}
 use Rattle.theory.specs.Answer.{Answer, refused, accepted}
+use Rattle.sheet.specs.cases.Yards.{sheetWith, guessTargets, guessMoves, guess, loop}
 use Rattle.sheet.specs.declared.reading.Layout.{Layout}
 
 pub record Case : Type 0 where
   pub sheet : List ℕ
   pub answer : Answer Layout
 
--- document 01's guess yard, lag 1, as its 45 bytes
-unfoldable pub guess : List ℕ
-guess =
+-- document 01's guess yard, lag 1, byte by byte: "45 bytes with contents"
+unfoldable pub guessBytes : List ℕ
+guessBytes =
     83 ∷ 20 ∷ 0 ∷ 3 ∷ 0 ∷ 80 ∷ 23 ∷ 0 ∷ 4 ∷ 0 ∷ 67 ∷ 27 ∷ 0 ∷ 12 ∷ 0 ∷ 85 ∷ 39 ∷ 0 ∷ 6 ∷ 0
     ∷ 0 ∷ 2 ∷ 1
     ∷ 0 ∷ 0 ∷ 2 ∷ 3
     ∷ 0 ∷ 0 ∷ 2 ∷ 0 ∷ 1 ∷ 3 ∷ 1 ∷ 0 ∷ 3 ∷ 1 ∷ 1 ∷ 2
     ∷ 2 ∷ 0 ∷ 2 ∷ 1 ∷ 3 ∷ 0 ∷ []
 
--- a number in two bytes
-unfoldable pub twoBytes : ℕ → List ℕ
-twoBytes n = n % 256 ∷ n / 256 ∷ []
-
--- entries for bodies that begin at a place, one after another
-unfoldable pub contentsFrom : ℕ → List ℕ → List (List ℕ) → List ℕ
-contentsFrom at [] bodies = []
-contentsFrom at (letter ∷ letters) [] = []
-contentsFrom at (letter ∷ letters) (body ∷ bodies) =
-    letter ∷ twoBytes at ++ (twoBytes (length body) ++ contentsFrom (at + length body) letters bodies)
-
--- a game sheet with these bodies S, P, C, U and right contents
-unfoldable pub sheetWith : List ℕ → List ℕ → List ℕ → List ℕ → List ℕ
-sheetWith h p c u =
-    contentsFrom 20 (83 ∷ 80 ∷ 67 ∷ 85 ∷ []) (h ∷ p ∷ c ∷ u ∷ []) ++ (h ++ (p ++ (c ++ u)))
-
 -- the guess yard with other bodies S, P, C or U
 unfoldable pub guessS : List ℕ → List ℕ
-guessS h = sheetWith h (0 ∷ 0 ∷ 2 ∷ 3 ∷ []) (take 12 (drop 27 guess)) (drop 39 guess)
+guessS h = sheetWith h (0 ∷ 0 ∷ 2 ∷ 3 ∷ []) guessTargets guessMoves
 
 unfoldable pub guessP : List ℕ → List ℕ
-guessP p = sheetWith (0 ∷ 2 ∷ 1 ∷ []) p (take 12 (drop 27 guess)) (drop 39 guess)
+guessP p = sheetWith (0 ∷ 2 ∷ 1 ∷ []) p guessTargets guessMoves
 
 unfoldable pub guessC : List ℕ → List ℕ
-guessC c = sheetWith (0 ∷ 2 ∷ 1 ∷ []) (0 ∷ 0 ∷ 2 ∷ 3 ∷ []) c (drop 39 guess)
+guessC c = sheetWith (0 ∷ 2 ∷ 1 ∷ []) (0 ∷ 0 ∷ 2 ∷ 3 ∷ []) c guessMoves
 
 unfoldable pub guessU : List ℕ → List ℕ
-guessU u = sheetWith (0 ∷ 2 ∷ 1 ∷ []) (0 ∷ 0 ∷ 2 ∷ 3 ∷ []) (take 12 (drop 27 guess)) u
-
--- document 01's loop at a lag
-unfoldable pub loop : ℕ → List ℕ
-loop d = sheetWith (0 ∷ 1 ∷ d ∷ []) (0 ∷ 2 ∷ []) (0 ∷ 0 ∷ 1 ∷ []) (1 ∷ 0 ∷ [])
+guessU u = sheetWith (0 ∷ 2 ∷ 1 ∷ []) (0 ∷ 0 ∷ 2 ∷ 3 ∷ []) guessTargets u
 
 -- n own positions that all lead to one of the yard, and back, with A 8 at a lag
 unfoldable pub lines : ℕ → ℕ → ℕ → List ℕ
@@ -82,19 +63,19 @@ wrong n s = record { sheet = s; answer = refused n }
 
 unfoldable pub cases : List Case
 cases =
-    right guess (layout 0 2 1 4 12 6)
-    ∷ right (guessS (0 ∷ 2 ∷ 1 ∷ [])) (layout 0 2 1 4 12 6)
+    right guessBytes (layout 0 2 1 4 12 6)
+    ∷ right (guess 0 1) (layout 0 2 1 4 12 6)
     ∷ right (loop 6) (layout 0 1 6 2 3 2)
     -- 1: short, letters, first offset, a gap, an offset 256 too high, an end before and after the sheet's
     ∷ wrong 1 []
-    ∷ wrong 1 (take 19 guess)
-    ∷ wrong 1 (set guess 0 80)
-    ∷ wrong 1 (set guess 15 86)
-    ∷ wrong 1 (set guess 1 19)
-    ∷ wrong 1 (set guess 6 24)
-    ∷ wrong 1 (set guess 7 1)
-    ∷ wrong 1 (take 44 guess)
-    ∷ wrong 1 (guess ++ (0 ∷ []))
+    ∷ wrong 1 (take 19 guessBytes)
+    ∷ wrong 1 (set guessBytes 0 80)
+    ∷ wrong 1 (set guessBytes 15 86)
+    ∷ wrong 1 (set guessBytes 1 19)
+    ∷ wrong 1 (set guessBytes 6 24)
+    ∷ wrong 1 (set guessBytes 7 1)
+    ∷ wrong 1 (take 44 guessBytes)
+    ∷ wrong 1 (guessBytes ++ (0 ∷ []))
     -- 2: no position, 257 of them (256 pass, and most have no move), a byte over 3
     ∷ wrong 2 (guessP [])
     ∷ wrong 2 (guessP (replicate 257 0))

@@ -1,11 +1,11 @@
 -- What solving answers and leaves in both buffers, refusals too: the table that proofs/Cases.antt computes. Every buffer holds nines
--- before. Document 01's starred cases are in accuracy/specs/Cases.antt. Assumes nothing.
+-- before. Document 01's starred cases are in claims/specs/cases/Starred.antt. Assumes nothing.
 use Prim.Native.Nat.{ℕ, _+_}
 use mathlib.Core.List.{List, [], _∷_, _++_}
 use lib.ListN.{length, replicate}
 use Rattle.theory.specs.Answer.{Answer, refused, accepted, onAccepted}
 use Rattle.theory.specs.Delay.{Verdict, wins, losing}
-use Rattle.sheet.specs.Cases.{sheetWith}
+use Rattle.sheet.specs.cases.Yards.{guess}
 use Rattle.solver.specs.Solving.{solveAnswer, masksLeft, ranksLeft}
 
 -- what solving says and leaves
@@ -49,18 +49,13 @@ unsolved s masks ranks n =
       effect = record { answer = refused n; masks = replicate masks 9; ranks = replicate ranks 9 };
     }
 
--- the guess yard, at a lag
-unfoldable pub guess : ℕ → List ℕ
-guess d =
-    sheetWith (0 ∷ 2 ∷ d ∷ []) (0 ∷ 0 ∷ 2 ∷ 3 ∷ []) (0 ∷ 0 ∷ 2 ∷ 0 ∷ 1 ∷ 3 ∷ 1 ∷ 0 ∷ 3 ∷ 1 ∷ 1 ∷ 2 ∷ []) (2 ∷ 0 ∷ 2 ∷ 1 ∷ 3 ∷ 0 ∷ [])
-
 unfoldable pub cases : List Case
 cases =
-    solved (guess 0) wins (1 ∷ 2 ∷ 0 ∷ 0 ∷ []) (0 ∷ 0 ∷ 0 ∷ 0 ∷ [])
-    ∷ solved (guess 1) (losing 1) (0 ∷ 0 ∷ 0 ∷ 0 ∷ []) (0 ∷ 0 ∷ 2 ∷ 1 ∷ [])
+    solved (guess 0 0) wins (1 ∷ 2 ∷ 0 ∷ 0 ∷ []) (0 ∷ 0 ∷ 0 ∷ 0 ∷ [])
+    ∷ solved (guess 0 1) (losing 1) (0 ∷ 0 ∷ 0 ∷ 0 ∷ []) (0 ∷ 0 ∷ 2 ∷ 1 ∷ [])
     -- asked at lag 2, which has 8 pairs, losing at 1, which has 4: the other 4 are untouched
     ∷ record {
-      sheet = guess 2;
+      sheet = guess 0 2;
       masks-room = 8;
       ranks-room = 8;
       effect =
@@ -71,7 +66,7 @@ cases =
           };
     }
     -- lag 7; a buffer too short at the asked lag, though not at the losing one
-    ∷ unsolved (guess 7) 4 4 3
-    ∷ unsolved (guess 2) 7 8 8
-    ∷ unsolved (guess 2) 8 7 8
+    ∷ unsolved (guess 0 7) 4 4 3
+    ∷ unsolved (guess 0 2) 7 8 8
+    ∷ unsolved (guess 0 2) 8 7 8
     ∷ []

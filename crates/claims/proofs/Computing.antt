@@ -1,0 +1,33 @@
+-- Names for what a table of cases computes with: to unfold one of them is to unfold every definition on its line. Assumes nothing.
+use mathlib.Core.Bool.{Bool, true}
+use Rattle.sheet.proofs.Computing.{sheet-computes}
+use Rattle.controller.specs.Accuracy.{callStep, Truthful}
+use Rattle.solver.specs.Solving.{solveAnswer}
+use Rattle.maker.specs.Making.{headerOf, tableBytes, tableSheetOf, rankSheetOf, madeOf, outputSize, makeAnswer}
+use Rattle.table.specs.TableSheet.{tableLayout, decode, tableNodes, numbersOk, belowAt, bytesBelow, bodiesOk, shapeAnswer, someFlagged, tableAnswer}
+use Rattle.state.specs.State.{slotAt, agrees, heldAt, withinAt, heldOk, windowOk, stateOk, pushed, shiftedAt, shifted}
+use Rattle.controller.specs.Controller.{observeWith, wordOf, obey, nextAction, reported, actWith, openAnswer, observeAnswer, actAnswer}
+
+unfoldable pub solving-computes : Bool
+unfolding solveAnswer
+solving-computes = true
+
+unfoldable pub making-computes : Bool
+unfolding headerOf tableBytes tableSheetOf rankSheetOf madeOf outputSize makeAnswer
+making-computes = true
+
+unfoldable pub table-sheets-compute : Bool
+unfolding tableLayout decode tableNodes numbersOk belowAt bytesBelow bodiesOk shapeAnswer someFlagged tableAnswer
+table-sheets-compute = true
+
+unfoldable pub states-compute : Bool
+unfolding slotAt agrees heldAt withinAt heldOk windowOk stateOk pushed shiftedAt shifted
+states-compute = true
+
+unfoldable pub calls-compute : Bool
+unfolding observeWith wordOf obey nextAction reported actWith openAnswer observeAnswer actAnswer
+calls-compute = true
+
+unfoldable pub claims-compute : Bool
+unfolding sheet-computes solving-computes making-computes table-sheets-compute states-compute calls-compute callStep Truthful
+claims-compute = true

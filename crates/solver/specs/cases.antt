@@ -1,0 +1,2 @@
+-- Tables of cases: what solving answers and leaves.
+pub mod Solving

@@ -1,0 +1,2 @@
+-- Tables of cases: games of our own with their results.
+pub mod Games
