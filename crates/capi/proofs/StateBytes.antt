@@ -14,7 +14,7 @@ use Rattle.theory.proofs.Answer.{refused-not-accepted, accepted-same, check-acc
 use Rattle.table.specs.TableSheet.{TableSheet, tableAnswer}
 use Rattle.state.specs.State.{lastTurn, seen, opened, stateOk, observed, pushed, shifted, actedState}
 use Rattle.state.specs.StateBytes.{decodeState, encodeState}
-use Rattle.state.proofs.Back.{Held, three-decoded, seven-decoded, decode-encode}
+use Rattle.state.proofs.RoundTrip.{Held, three-decoded, seven-decoded, decode-encode}
 use Rattle.state.specs.declared.state.State.{State}
 use Rattle.controller.specs.Controller.{Acted, observeWith, obey, nextAction, actWith, openAnswer, observeAnswer, actAnswer}
 use Rattle.controller.specs.Accuracy.{Call, observe, act, Progress, afterObserving, afterActing, reply, callStep, runCalls}

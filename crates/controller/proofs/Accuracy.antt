@@ -76,7 +76,7 @@ module _ (G : Game) (t : List ℕ) (rule : Rule) (legal : Legal G) (reads : tabl
       record {
         opens = opens-right;
         endless = λ n b. goes-safely n;
-        given = f .acts ∙ ap (λ (r : Run). actionsOf (playOf r)) (sym e);
+        acted = f .acts ∙ ap (λ (r : Run). actionsOf (playOf r)) (sym e);
         played = f .works ∙ sym e;
         answered = r .1;
       }

@@ -1,4 +1,4 @@
--- The command of a turn, as the code of src/turn.rt finds it: the least first word, its actions, the pending word and its mask.
+-- The action of a turn, as the code of src/turn.rt finds it: the least first word, its actions, the pending word and its mask.
 -- Assumes nothing.
 use Prim.Native.Nat.{ℕ, zero, suc, _+_, _-_, _*_, _/_, _%_, _^_, _≤_, _<_}
 use mathlib.Core.Path.{_≡_, refl, sym, _∙_, ap, ap₂}

@@ -1,4 +1,4 @@
--- Laws of specs/Controller.antt: each answer of hearing and of giving, with the tests that lead to it. Assumes nothing.
+-- Laws of specs/Controller.antt: each answer of observing and of acting, with the tests that lead to it. Assumes nothing.
 use Prim.Native.Nat.{ℕ, _+_, _-_, _*_, _≤_, _<_}
 use mathlib.Core.Path.{_≡_, _∙_, ap}
 use mathlib.Core.Bool.{true, false, not}

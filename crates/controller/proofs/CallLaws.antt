@@ -1,4 +1,4 @@
--- Opening, hearing and giving, as the code of src/calls.rt finds them: the checks before have passed, and one fails.
+-- Opening, observing and acting, as the code of src/calls.rt finds them: the checks before have passed, and one fails.
 -- Assumes nothing.
 use Prim.Native.Nat.{ℕ, _+_, _-_, _*_, _/_, _^_, _≤_, _<_}
 use mathlib.Core.Path.{_≡_, refl, sym, _∙_, ap, ap₂, subst}
@@ -66,7 +66,7 @@ module _ (l : TableLayout) (s : State) (b : Bool) (e : b ≡ stateOk (says l [] 
   pub turn-left : not b ≡ false → (s .turn ≡ lastTurn → ⊥) → s .turn < lastTurn
   turn-left g t = omega (arith, turn-few g)
 
--- hearing; b is the result of check 20, v the delay as a number, w the slot of the index
+-- observing; b is the result of check 20, v the delay as a number, w the slot of the index
 
 module _ (l : TableLayout) (s : State) (k p : ℕ) (r : Step) (b : Bool) (e : b ≡ stateOk (says l [] []) s) where
   pub observed-20 : not b ≡ true → r ≡ step (Refused refusal.State) s → stepMeans r ≡ afterObserving s (observeWith (says l [] []) s k p)
@@ -112,7 +112,7 @@ module _ (l : TableLayout) (s : State) (k p : ℕ) (r : Step) (b : Bool) (e : b 
 
 pub ruleset observe-laws = (needs, turn-fits, observed-20, observed-16, observed-18, observed-17, observed-19, observed-accepts)
 
--- giving; v is the delay as a number
+-- acting; v is the delay as a number
 
 -- check 20 needs no table
 state-any : (l : TableLayout) (f m : List ℕ) (s : State) → stateOk (says l [] []) s ≡ stateOk (says l f m) s

@@ -39,6 +39,6 @@ module _ (G : Game) (d : ℕ) (T : Table) (rule : Rule) (n : ℕ) (g : Goes G d 
   unfolding exact playBy turnBy advance arrive
   exact-further = ap (turnBy G rule (exactChoice G d T)) (g .is) ∙ rw (g .has-action, advance) (rw (g .permitted))
 
-  pub worked-further : (given : List ℕ) → worked G rule given ≡ going (g .play) → worked G rule (g .action ∷ given) ≡ going further
+  pub worked-further : (actions : List ℕ) → worked G rule actions ≡ going (g .play) → worked G rule (g .action ∷ actions) ≡ going further
   unfolding worked turnBy advance arrive
-  worked-further given e = ap (turnBy G rule (λ π. some (g .action))) e ∙ rw (g .permitted)
+  worked-further actions e = ap (turnBy G rule (λ π. some (g .action))) e ∙ rw (g .permitted)

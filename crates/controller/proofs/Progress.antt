@@ -1,4 +1,4 @@
--- The invariant of demand 3: after any calls the state says what was given and heard of the exact play, and so each next call
+-- The invariant of demand 3: after any calls the state says what was done and observed of the exact play, and so each next call
 -- has the right answer. Assumes nothing.
 use Prim.Native.Nat.{ℕ, zero, suc, _+_, _-_, _*_, _/_, _≤_, _<_}
 use mathlib.Core.Path.{_≡_, refl, sym, _∙_, ap, ap₂, subst}
@@ -54,7 +54,7 @@ slot-known : (b : Bool) (p : ℕ) (v : Slot) → v ≡ cond b (seen p) unknown �
 slot-known true p v e = rw e
 slot-known false p v e = rw e
 
--- one index more is heard
+-- one index more is observed
 observed-more : (k : ℕ) (indices : List ℕ) (j : ℕ) → k ≡ j → anyOf (λ m. eqb m j) (k ∷ indices) ≡ true
 observed-more k indices j e = rw (any-of-cons (λ m. eqb m j) k indices) (either-left _ _ (eq-eqb k j e))
 
@@ -62,7 +62,7 @@ observed-other : (k : ℕ) (indices : List ℕ) (j : ℕ) → (k ≡ j → ⊥) 
 unfolding either
 observed-other k indices j e = any-of-cons (λ m. eqb m j) k indices ∙ rw (ne-eqb k j e)
 
--- while 2i < d the command needs no report and no word
+-- while 2i < d the action needs no observation and no word
 early-same : (A d : ℕ) (T : Table) (i p q v w : ℕ) → 2 * i < d → actionAt A d T i p v ≡ actionAt A d T i q w
 unfolding actionAt
 early-same A d T i p q v w h = rw (lt-ltb (2 * i) d h)
@@ -75,14 +75,14 @@ module _ (G : Game) (legal : Legal G) (x : TableSheet) (sound : Sound G x) (w : 
   play n = goes n .play
 
   pub record Follows (s : Progress) : Type 0 where
-    pub works : worked G rule (s .given) ≡ going (play (turnOf s))
-    pub acts : s .given ≡ actionsOf (play (turnOf s))
+    pub works : worked G rule (s .actions) ≡ going (play (turnOf s))
+    pub acts : s .actions ≡ actionsOf (play (turnOf s))
     pub bound : turnOf s ≤ lastTurn
     pub turn : s .state .turn ≡ turnOf s
     pub latest-size : length (s .state .last) ≡ 3
-    pub latest : (k : ℕ) → k < 3 → getD (s .state .last) k 0 ≡ getD (s .given) k 0
+    pub latest : (k : ℕ) → k < 3 → getD (s .state .last) k 0 ≡ getD (s .actions) k 0
     pub window-size : length (s .state .window) ≡ slots
-    -- a slot of the window is known exactly if its index is heard, and has the position of the exact play
+    -- a slot of the window is known exactly if its index was observed, and has the position of the exact play
     pub slot : (k : ℕ) → k ≤ x .delay → k ≤ 2 * turnOf s
         → slotAt (s .state) k ≡ cond (isObserved s (2 * turnOf s - k)) (seen (last G (back k (play (turnOf s))))) unknown
     pub unobserved : (j : ℕ) → 2 * turnOf s < j → isObserved s j ≡ false
@@ -123,9 +123,9 @@ module _ (G : Game) (legal : Legal G) (x : TableSheet) (sound : Sound G x) (w : 
     held-small : (k : ℕ) → k < 3 → k < turnOf s → heldAt (x .actions) (s .state .last) k ≡ true
     unfolding heldAt
     held-small k h l =
-        let a : length (s .given) ≡ length (actionsOf (play (turnOf s))) = ap length (f .acts) in
+        let a : length (s .actions) ≡ length (actionsOf (play (turnOf s))) = ap length (f .acts) in
         let b = f .latest k h in
-        let e : getD (s .given) k 0 ≡ getD (actionsOf (play (turnOf s))) k 0 = ap (λ l. getD l k 0) (f .acts) in
+        let e : getD (s .actions) k 0 ≡ getD (actionsOf (play (turnOf s))) k 0 = ap (λ l. getD l k 0) (f .acts) in
         let c = action-small legal (goes (turnOf s) .of-game) k (omega arith) in
         lt-ltb (getD (s .state .last) k 0) (x .actions) (omega (arith, sound .actions))
 
@@ -151,7 +151,7 @@ module _ (G : Game) (legal : Legal G) (x : TableSheet) (sound : Sound G x) (w : 
 
   module _ (s : Progress) (f : Follows s) (k p : ℕ) where
     -- a report of an index in the window is true of the exact play
-    told : HasAt G (worked G rule (s .given)) k p → last G (back (2 * turnOf s - k) (play (turnOf s))) ≡ p
+    told : HasAt G (worked G rule (s .actions)) k p → last G (back (2 * turnOf s - k) (play (turnOf s))) ≡ p
     told (h, e) =
         ap (λ n. last G (back (n - k) (play (turnOf s)))) (sym (goes (turnOf s) .index-is))
         ∙ ap (λ (r : Run). last G (back (index (playOf r) - k) (playOf r))) (sym (f .works))
@@ -186,7 +186,7 @@ module _ (G : Game) (legal : Legal G) (x : TableSheet) (sound : Sound G x) (w : 
           (sym (observed-other k (s .indices) (2 * turnOf s - j) (λ r. q (omega arith)))))
           (bool (eqb j (2 * turnOf s - k)))
 
-      observed-follows : Follows (record { state = observed (s .state) k p; given = s .given; indices = k ∷ s .indices })
+      observed-follows : Follows (record { state = observed (s .state) k p; actions = s .actions; indices = k ∷ s .indices })
       unfolding slotAt
       observed-follows =
           record {
@@ -206,7 +206,7 @@ module _ (G : Game) (legal : Legal G) (x : TableSheet) (sound : Sound G x) (w : 
     abbrev indicesBy : Answer State → Type 0
     indicesBy a = Right s (observe k p) (afterObserving (s .state) a)
 
-    pub observe-right : (2 * turnOf s ≤ k + x .delay → k ≤ 2 * turnOf s → HasAt G (worked G rule (s .given)) k p)
+    pub observe-right : (2 * turnOf s ≤ k + x .delay → k ≤ 2 * turnOf s → HasAt G (worked G rule (s .actions)) k p)
         → indicesBy (observeWith x (s .state) k p)
     observe-right true-of =
         let t = f .turn in
@@ -259,16 +259,16 @@ module _ (G : Game) (legal : Legal G) (x : TableSheet) (sound : Sound G x) (w : 
         let z = f .latest-size in
         ap (wordOf (G .actions))
         (ext-getD 0 _ _
-        (length-take-le (x .delay / 2) (s .state .last) (omega arith) ∙ sym (length-take-le (x .delay / 2) (s .given) h))
+        (length-take-le (x .delay / 2) (s .state .last) (omega arith) ∙ sym (length-take-le (x .delay / 2) (s .actions) h))
         (λ k l.
         let m : k < x .delay / 2 = rw (length-take-le (x .delay / 2) (s .state .last) (omega arith)) at l in
         getD-take (x .delay / 2) (s .state .last) k 0 m
         ∙ f .latest k (omega arith)
-        ∙ sym (getD-take (x .delay / 2) (s .given) k 0 m))
+        ∙ sym (getD-take (x .delay / 2) (s .actions) k 0 m))
         ∙ ap (take (x .delay / 2)) (f .acts))
         ∙ sym (word-actions (G .actions) (play (turnOf s)) (x .delay / 2))
 
-    -- the command of the state's turn is the exact play's
+    -- the action of the state's turn is the exact play's
     action-by : nextAction x (s .state)
         ≡ actionAt (G .actions) (x .delay) (x .table) (turnOf s) (slotAt (s .state) (x .delay) .position)
         (wordOf (G .actions) (take (x .delay / 2) (s .state .last)))
@@ -311,7 +311,7 @@ module _ (G : Game) (legal : Legal G) (x : TableSheet) (sound : Sound G x) (w : 
     abbrev action : ℕ
     action = goes (turnOf s) .action
 
-    pushed-latest : (k : ℕ) → k < 3 → getD (pushed action (s .state .last)) k 0 ≡ getD (action ∷ s .given) k 0
+    pushed-latest : (k : ℕ) → k < 3 → getD (pushed action (s .state .last)) k 0 ≡ getD (action ∷ s .actions) k 0
     unfolding pushed
     pushed-latest zero h = refl
     pushed-latest (suc zero) h = f .latest 0 (omega arith)
@@ -335,14 +335,14 @@ module _ (G : Game) (legal : Legal G) (x : TableSheet) (sound : Sound G x) (w : 
         (ap (λ π. last G (back (suc (suc k)) π)) (sym (next-play (turnOf s)))))
 
     acted-follows : turnOf s < lastTurn
-        → Follows (record { state = actedState (x .delay) (s .state) action; given = action ∷ s .given; indices = s .indices })
+        → Follows (record { state = actedState (x .delay) (s .state) action; actions = action ∷ s .actions; indices = s .indices })
     unfolding slotAt actionsOf shifted pushed
     acted-follows m =
         let n = next-play (turnOf s) in
         let d = sound .short-delay in
         record {
           works =
-              worked-further G (x .delay) (x .table) rule (turnOf s) (goes (turnOf s)) (s .given) (f .works) ∙ ap going (sym n);
+              worked-further G (x .delay) (x .table) rule (turnOf s) (goes (turnOf s)) (s .actions) (f .works) ∙ ap going (sym n);
           acts = ap (λ l. action ∷ l) (f .acts) ∙ ap actionsOf (sym n);
           bound = m;
           turn = ap suc (f .turn);
@@ -358,7 +358,7 @@ module _ (G : Game) (legal : Legal G) (x : TableSheet) (sound : Sound G x) (w : 
     abbrev actionsBy : Answer Acted → Type 0
     actionsBy a = Right s act (afterActing (s .state) a)
 
-    -- the command is given where refusals 15 and 13 pass
+    -- there is an action where refusals 15 and 13 pass
     acted-right : turnOf s < lastTurn → reported x (s .state) ≡ true
         → both (leb (x .delay) (2 * turnOf s)) (not (isObserved s needed)) ≡ false
         → nextAction x (s .state) ≡ exactChoice G (x .delay) (x .table) (play (turnOf s)) → actionsBy (actWith x (s .state))

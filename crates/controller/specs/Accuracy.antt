@@ -16,7 +16,7 @@ use Rattle.state.specs.State.{lastTurn, opened}
 use Rattle.controller.specs.Controller.{Acted, openAnswer, observeAnswer, actAnswer}
 use Rattle.state.specs.declared.state.State.{State}
 
--- "Its calls are hearing and giving": hear a position at an index, ask for the command
+-- "Its calls are hearing and giving": observe a position at an index, and act
 pub data Call : Type 0 where
   observe : ℕ → ℕ → Call
   act : Call
@@ -44,24 +44,24 @@ abbrev pub reply : List ℕ → State → Call → Reply
 reply t s (observe k p) = afterObserving s (observeAnswer t s k p)
 reply t s act = afterActing s (actAnswer t s)
 
--- after some calls: the state, the actions given and the indices heard, newest first
+-- after some calls: the state, the actions and the indices observed, newest first
 pub record Progress : Type 0 where
   pub state : State
-  pub given : List ℕ
+  pub actions : List ℕ
   pub indices : List ℕ
 
 -- "the list starts from the state" that opening gives
 abbrev pub begun : Progress
-begun = record { state = opened; given = []; indices = [] }
+begun = record { state = opened; actions = []; indices = [] }
 
 -- "i is the number of commands given so far"
 abbrev pub turnOf : Progress → ℕ
-turnOf s = length (s .given)
+turnOf s = length (s .actions)
 
 abbrev pub actionsBy : Response → List ℕ → List ℕ
-actionsBy accepts given = given
-actionsBy (acts a) given = a ∷ given
-actionsBy (refuses n) given = given
+actionsBy accepts actions = actions
+actionsBy (acts a) actions = a ∷ actions
+actionsBy (refuses n) actions = actions
 
 -- "An index is heard once a hearing that named it was accepted"
 abbrev pub indicesBy : Call → Response → List ℕ → List ℕ
@@ -74,7 +74,7 @@ indicesBy act (refuses n) indices = indices
 
 abbrev pub after : Progress → Call → Reply → Progress
 after s c r =
-    record { state = r .state; given = actionsBy (r .response) (s .given); indices = indicesBy c (r .response) (s .indices) }
+    record { state = r .state; actions = actionsBy (r .response) (s .actions); indices = indicesBy c (r .response) (s .indices) }
 
 -- each call "gets that same sheet and the state the call before it left"
 unfoldable pub callStep : List ℕ → Progress → Call → Progress
@@ -91,7 +91,7 @@ HasAt G run k p = (k ≤ index (playOf run)) × (last G (back (index (playOf run
 -- "A report is true if the worked play has its position at its index"; asked of "every report of an index from 2i - d to 2i"
 abbrev pub IsTrue : Game → List ℕ → Rule → Progress → Call → Type 0
 IsTrue G t rule s (observe k p) =
-    2 * turnOf s ≤ k + decode t .delay → k ≤ 2 * turnOf s → HasAt G (worked G rule (s .given)) k p
+    2 * turnOf s ≤ k + decode t .delay → k ≤ 2 * turnOf s → HasAt G (worked G rule (s .actions)) k p
 IsTrue G t rule s act = Unit {0}
 
 unfoldable pub Truthful : Game → List ℕ → Rule → Progress → List Call → Type 0
@@ -101,14 +101,14 @@ Truthful G t rule s (c ∷ later) = IsTrue G t rule s c × Truthful G t rule (ca
 abbrev pub isObserved : Progress → ℕ → Bool
 isObserved s k = anyOf (λ j. eqb j k) (s .indices)
 
--- the exact play of a table sheet, and its command of turn i
+-- the exact play of a table sheet, and its action of turn i
 abbrev pub exactPlay : Game → TableSheet → Rule → ℕ → Run
 exactPlay G x rule n = exact G (x .delay) (x .table) rule n
 
 abbrev pub exactAction : Game → TableSheet → Rule → ℕ → MaybeAction
 exactAction G x rule i = exactChoice G (x .delay) (x .table) (playOf (exactPlay G x rule i))
 
--- a missing command would be refused; `endless` below says that the exact play has none
+-- a missing action would be refused; `endless` below says that the exact play has none
 abbrev pub toAct : MaybeAction → Response
 toAct none = refuses 14
 toAct (some a) = acts a
@@ -131,7 +131,7 @@ Answered G t rule s [] = Unit {0}
 Answered G t rule s (c ∷ later) =
     (reply t (s .state) c .response ≡ rightAnswer G (decode t) rule s c) × Answered G t rule (callStep t s c) later
 
--- the play "does not end and has only safe positions", and has a command next
+-- the play "does not end and has only safe positions", and has an action next
 pub record GoesSafely (G : Game) (x : TableSheet) (rule : Rule) (n : ℕ) : Type 0 where
   pub goes : exactPlay G x rule n ≡ going (playOf (exactPlay G x rule n))
   pub safely : (k : ℕ) → G .safe (last G (back k (playOf (exactPlay G x rule n)))) ≡ true
@@ -144,7 +144,7 @@ pub record Accurate (G : Game) (t : List ℕ) (rule : Rule) (calls : List Call) 
   -- "Over its first 1,000,000 turns the exact play does not end and has only safe positions"
   pub endless : (n : ℕ) → n ≤ lastTurn → GoesSafely G (decode t) rule n
   -- "After the list the commands given, in order, are those of its first i turns"
-  pub given : runCalls t begun calls .given ≡ actionsOf (playOf (exactPlay G (decode t) rule (turnOf (runCalls t begun calls))))
+  pub acted : runCalls t begun calls .actions ≡ actionsOf (playOf (exactPlay G (decode t) rule (turnOf (runCalls t begun calls))))
   -- "and the worked play is the exact play up to index 2i"
-  pub played : worked G rule (runCalls t begun calls .given) ≡ exactPlay G (decode t) rule (turnOf (runCalls t begun calls))
+  pub played : worked G rule (runCalls t begun calls .actions) ≡ exactPlay G (decode t) rule (turnOf (runCalls t begun calls))
   pub answered : Answered G t rule begun calls

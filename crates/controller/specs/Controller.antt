@@ -1,4 +1,4 @@
--- Opening, hearing a report and giving a command, over what a table sheet says and over its bytes: document 01's "Opening the
+-- Opening, observing and acting, over what a table sheet says and over its bytes: document 01's "Opening the
 -- cabin", "Hearing a report" and "Giving the command", each a chain of checks in the order written. Assumes nothing.
 use Prim.Native.Nat.{ℕ, _+_, _-_, _*_, _/_}
 use mathlib.Core.Bool.{Bool, not}
@@ -36,14 +36,14 @@ unfoldable pub obey : TableSheet → State → MaybeAction → Answer Acted
 obey x s none = refused 14
 obey x s (some a) = accepted (record { action = a; state = actedState (x .delay) s a })
 
--- the command of the state's turn, by the rule of the exact play: from the report of index 2i - d and the last L commands.
+-- the action of the state's turn, by the rule of the exact play: from the observation of index 2i - d and the last L actions.
 -- "Fresher reports have no say"
 unfoldable pub nextAction : TableSheet → State → MaybeAction
 nextAction x s =
     actionAt (x .actions) (x .delay) (x .table) (s .turn) (slotAt s (x .delay) .position)
     (wordOf (x .actions) (take (x .delay / 2) (s .last)))
 
--- what refusal 13 leaves: 2i is below d, or index 2i - d is heard
+-- what refusal 13 leaves: 2i is below d, or index 2i - d was observed
 unfoldable pub reported : TableSheet → State → Bool
 reported x s = either (ltb (2 * s .turn) (x .delay)) (slotAt s (x .delay) .known)
 

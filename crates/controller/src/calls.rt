@@ -1,4 +1,4 @@
-// Opening, hearing a report and giving a command, over the bytes of a table sheet: each reads them on every call.
+// Opening, observing and acting, over the bytes of a table sheet: each reads them on every call.
 use crate::turn::action_of;
 use crate::turn::least_flagged;
 use crate::turn::lowest;
@@ -78,7 +78,7 @@ fn take_turn(delay: u8, s: State, action: u8) -> Step
     }
 }
 
-// Hearing, after 10 to 12.
+// Observing, after 10 to 12.
 fn observe_with(l: TableLayout, s: State, index: usize, position: u8) -> Step
     requires { ⌜ l .delay ≤ mostDelay ⌝ }
     ensures { λ r. ⌜ stepMeans r ≡ afterObserving s (observeWith (says l [] []) s index position) ⌝ }
@@ -109,7 +109,7 @@ fn observe_with(l: TableLayout, s: State, index: usize, position: u8) -> Step
     accept(next)
 }
 
-// Giving, after 10 to 12, with the W and T bodies.
+// Acting, after 10 to 12, with the W and T bodies.
 fn act_with(l: TableLayout, flags: &[u8], masks: &[u8], s: State) -> Step
     requires { ⌜ Usable (says l (now flags) (now masks)) ⌝ }
     ensures { λ r. ⌜ stepMeans r ≡ afterActing s (actWith (says l (now (flags .entry)) (now (masks .entry))) s) ⌝ }
@@ -154,7 +154,7 @@ pub fn opening(sheet: &[u8]) -> Step
     }
 }
 
-// Hearing a report: a position at an index.
+// "Hearing a report": a position at an index.
 pub fn observe(sheet: &[u8], s: State, index: usize, position: u8) -> Step
     ensures { λ r. ⌜ stepMeans r ≡ reply (now (sheet .entry)) s (observe index position) ⌝ }
 {
@@ -164,7 +164,7 @@ pub fn observe(sheet: &[u8], s: State, index: usize, position: u8) -> Step
     }
 }
 
-// Giving the command of the state's turn.
+// "Giving the command of turn i", the state's.
 pub fn act(sheet: &[u8], s: State) -> Step
     ensures { λ r. ⌜ stepMeans r ≡ reply (now (sheet .entry)) s act ⌝ }
 {

@@ -1,4 +1,4 @@
-// The command of a turn: the least first word's while 2i < d, else the lowest in the mask of the needed report's node.
+// The action of a turn: the least first word's while 2i < d, else the lowest in the mask of the needed observation's node.
 use sheet::form::byte;
 use sheet::form::wide;
 use sheet::size::power;

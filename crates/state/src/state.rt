@@ -4,7 +4,7 @@ ghost use mathlib.Core.Path.{_≡_};
 ghost use lib.ListN.{getD};
 ghost use Rattle.state.specs.State.{unknown, opened, agrees, pushed, shiftedAt, shifted};
 
-// The last turn: no command is given at it.
+// The last turn: no action is taken at it.
 pub const LAST_TURN: usize = 1000000;
 
 const SLOTS: usize = 7;
@@ -32,7 +32,7 @@ fn unknown() -> Slot
     }
 }
 
-// Nothing given, nothing heard.
+// No action yet, nothing observed.
 pub fn opened() -> State
     ensures { λ r. ⌜ r ≡ opened ⌝ }
 {

@@ -1,4 +1,4 @@
--- Reading a table sheet, document 01's winning sheet: "S, W, T". The answer to every list of bytes, and what the code's answer
+-- Reading a table sheet, document 01's "winning sheet": "S, W, T". The answer to every list of bytes, and what the code's answer
 -- means in those terms. Assumes nothing.
 use Prim.Native.Nat.{ℕ, _+_, _^_}
 use mathlib.Core.Bool.{Bool}
@@ -59,7 +59,7 @@ tableAt s l = says l (partAt s (l .flags)) (partAt s (l .masks))
 unfoldable pub decode : List ℕ → TableSheet
 decode s = tableAt s (tableLayout s)
 
--- document 01's pairs: "positions × A^L"
+-- the number of nodes, "positions × A^L"
 unfoldable pub tableNodes : TableSheet → ℕ
 tableNodes x = nodesOf (x .highest + 1) (x .actions) (x .delay)
 

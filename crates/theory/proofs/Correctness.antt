@@ -162,11 +162,11 @@ module _ (G : Game) (legal : Legal G) (d : ℕ) (σ : Strategy (G .actions) d) w
 
   -- a strategy that keeps its nodes inside S
 
-  pub record Correctness (S : ℕ → Type 0) : Type 0 where
+  pub record KeepsInside (S : ℕ → Type 0) : Type 0 where
     pub safe : (k : ℕ) → k < arena G d .nodes → arena G d .right k ≡ true → S k → arena G d .safe k ≡ true
     pub inside : (π : Play) → Seen π → S (node G d σ π) → Stays G d σ S π
 
-  module _ (S : ℕ → Type 0) (keeping : Correctness S) (starts : Starts (odd d) G (words G d) S (σ .initial)) where
+  module _ (S : ℕ → Type 0) (keeping : KeepsInside S) (starts : Starts (odd d) G (words G d) S (σ .initial)) where
     -- between two histories of the right side: safe, playable, and every next one is inside
     record Between (π : Play) : Type 0 where
       wrong : onRight (odd d) G (last G π) ≡ false

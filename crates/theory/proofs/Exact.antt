@@ -93,7 +93,7 @@ module _ (G : Game) (legal : Legal G) (d : ℕ) (σ : Strategy (G .actions) d) w
       let b : d + 2 * (d / 2 - k) ≡ 2 * (d / 2 - k) + d = omega arith in
       ap₂ (λ i p. actionOf d σ i p) e (ap (λ m. back m π) b ∙ sym (back-back (2 * (d / 2 - k)) d π)))
 
-  -- so document 01's pair of a turn is the node of that history
+  -- so document 01's "pair" of a turn is the node of that history
   pub node-played : {π : Play} → Consistent G d σ π → G .controller (last G π) ≡ true → d ≤ index π
       → last G (back d π) * G .actions ^ (d / 2) + lastActions (G .actions) π (d / 2) ≡ node G d σ (back d π)
   unfolding node words
@@ -129,7 +129,7 @@ pub record Goes (G : Game) (d : ℕ) (T : Table) (rule : Rule) (n : ℕ) : Type 
   pub own : G .controller (last G play) ≡ true
   -- every position so far is safe
   pub safe : (k : ℕ) → G .safe (last G (back k play)) ≡ true
-  -- the next command is there and permitted
+  -- the next action is there and permitted
   pub action : ℕ
   pub action-lt : action < G .actions
   pub has-action : exactChoice G d T play ≡ some action
@@ -155,7 +155,7 @@ module _ (G : Game) (legal : Legal G) (d : ℕ) (T : Table) (fits : Fits G d T) 
   unfolding lowestAt
   mask-action k e = rw (has-lacks T k e) (lowest-acts (G .actions) (getD (T .masks) k 0) (has-mask T k e))
 
-  -- the rule for commands is the strategy's choice
+  -- the rule for actions is the strategy's choice
   exact-choice : {π : Play} → Consistent G d σ π → G .controller (last G π) ≡ true → exactChoice G d T π ≡ some (choice d σ π)
   unfolding exactChoice actionAt choice
   exact-choice {π} c o =
@@ -210,7 +210,7 @@ module _ (G : Game) (legal : Legal G) (d : ℕ) (T : Table) (fits : Fits G d T) 
             legal .moves _ _ m .controller,
           )
 
-  -- it goes on for ever, is safe, and always has a permitted command
+  -- it goes on for ever, is safe, and always has a permitted action
   pub exact-goes : (rule : Rule) → IsRule G rule → (n : ℕ) → Goes G d T rule n
   exact-goes rule is n =
       let (π, c, e, t, o) = reaches rule is n in

@@ -1,5 +1,5 @@
--- Tables (specs/Table.antt): any choice out of a judged table wins; our own table is judged; every judged table lies inside ours; and a
--- strategy wins exactly if it keeps to ours. Assumes nothing.
+-- Tables (specs/Table.antt), whoever made them: any choice out of a judged table wins, and every step of a legal game stays among its
+-- nodes. Assumes nothing.
 use Prim.Native.Nat.{ℕ, _+_, _*_, _/_, _%_, _<_}
 use mathlib.Core.Path.{_≡_, refl, _∙_, ap}
 use mathlib.Core.Bool.{Bool, true, false, not}
@@ -21,7 +21,7 @@ use Rattle.theory.proofs.Masks.{zero-bit}
 use Rattle.theory.proofs.Rounds.{unspoilt, unspoilt-outcome}
 use Rattle.theory.proofs.Turns.{right-even, right-odd, to-injective, played-node, played-forbidden, played-passed, moved-passed}
 use Rattle.theory.proofs.Pending.{even-delay}
-use Rattle.theory.proofs.Correctness.{Starts, good-starts, starts-good, Seen, Correctness, seen-node, keeping-wins, keeping-node}
+use Rattle.theory.proofs.Correctness.{Starts, good-starts, starts-good, Seen, KeepsInside, seen-node, keeping-wins, keeping-node}
 
 -- a table's tests
 
@@ -155,7 +155,7 @@ module _ (G : Game) (legal : Legal G) (d : ℕ) (T : Table) (judged : Judged G d
     pub given : (π : Play) → Seen G legal d σ π → has T (node G d σ π) ≡ true → allows T (node G d σ π) (σ .given π) ≡ true
 
   module _ (σ : Strategy (G .actions) d) (picks : Picks σ) where
-    keeping : Correctness G legal d σ (λ k. has T k ≡ true)
+    keeping : KeepsInside G legal d σ (λ k. has T k ≡ true)
     keeping =
         record {
           safe = λ k h r s. judged .safe k h s;

@@ -23,7 +23,7 @@ leastFlagged T = firstNot (λ v. not (flagged T v)) (length (T .flags))
 unfoldable pub lowestIn : ℕ → ℕ → MaybeAction
 lowestIn A m = cond (eqb m 0) none (some (firstNot (λ c. not (bit m c)) A))
 
--- the command of turn i, from the position p at index 2i - d and the word w of the last L actions
+-- "the command" of turn i, from the position p at index 2i - d and the word w of the last L actions
 unfoldable pub actionAt : ℕ → ℕ → Table → ℕ → ℕ → ℕ → MaybeAction
 actionAt A d T i p w =
     cond (ltb (2 * i) d) (some (digit A (initialLength d) (leastFlagged T) i)) (lowestIn A (getD (T .masks) (p * A ^ (d / 2) + w) 0))
@@ -37,7 +37,7 @@ abbrev pub playOf : Run → Play
 playOf (going π) = π
 playOf (ended π) = π
 
--- a command adds its target, then the rule's move
+-- an action adds its target, then the rule's move
 unfoldable pub arrive : Rule → Play → ℕ → Target → Run
 arrive rule π c absent = ended π
 arrive rule π c (to q) = going (move (act π c q) (rule (act π c q)))
@@ -50,12 +50,12 @@ unfoldable pub turnBy : Game → Rule → (Play → MaybeAction) → Run → Run
 turnBy G rule choose (ended π) = ended π
 turnBy G rule choose (going π) = advance G rule π (choose π)
 
--- n turns by a command for each play
+-- n turns by an action for each play
 unfoldable pub playBy : Game → Rule → (Play → MaybeAction) → ℕ → Run
 playBy G rule choose zero = going origin
 playBy G rule choose (suc n) = turnBy G rule choose (playBy G rule choose n)
 
--- the exact play's command at the end of π
+-- the exact play's action at the end of π
 unfoldable pub exactChoice : Game → ℕ → Table → Play → MaybeAction
 exactChoice G d T π = actionAt (G .actions) d T (turns π) (last G (back d π)) (lastActions (G .actions) π (d / 2))
 

@@ -9,7 +9,7 @@ use lib.ListN.{getD}
 use Rattle.theory.specs.Fold.{both, allBelow, anyOf, tabulate}
 use Rattle.theory.specs.Game.{Target, absent, to}
 
--- nodes are document 01's pairs, by number. step k c has one outcome for each environment choice: the node reached, or absent
+-- nodes are document 01's "pairs", by number. step k c has one outcome for each environment choice: the node reached, or absent
 -- where the oldest action is not permitted or an unsafe position is passed
 pub record Arena : Type 0 where
   pub nodes : ℕ

@@ -37,7 +37,7 @@ bit m c = eqb ((m / 2 ^ c) % 2) 1
 unfoldable pub allows : Table → ℕ → ℕ → Bool
 allows T k c = bit (getD (T .masks) k 0) c
 
--- the right sizes and ranges: what refusal 11 leaves of a winning sheet
+-- the right sizes and ranges: what refusal 11 leaves of a table sheet
 pub record Fits (G : Game) (d : ℕ) (T : Table) : Type 0 where
   pub flags-length : length (T .flags) ≡ initialWords G d
   pub flags-small : (v : ℕ) → getD (T .flags) v 0 ≤ 1
