@@ -18,7 +18,8 @@ use Rattle.maker.proofs.Made.{making-won}
 use Rattle.maker.specs.Making.{won, makeAnswer}
 use Rattle.controller.specs.Accuracy.{begun, Truthful, Accurate}
 use Rattle.claims.proofs.Accuracy.{accuracy}
-use Rattle.claims.specs.cases.Starred.{resultBy, lastMove, positionsOf, repliesTo, answersBy, playsBy, computed, alternating, starred, controllerCases, cases, hallTable, hallCalls}
+use Rattle.theory.specs.cases.Games.{resultBy}
+use Rattle.claims.specs.cases.Starred.{lastMove, positionsOf, repliesTo, answersBy, playsBy, computed, alternating, starred, controllerCases, cases, hallTable, hallCalls}
 use Rattle.claims.proofs.Computing.{claims-compute}
 
 pub cases-met : map computed cases ≡ map accepted cases

@@ -150,7 +150,7 @@ pub fn opening(sheet: &[u8]) -> Step
     let s = opened();
     match read(sheet) {
         TableReading::Accepted(_) => accept(s),
-        TableReading::Refused(reason) => refuse(s, reason),
+        TableReading::Refused(refusal) => refuse(s, refusal),
     }
 }
 

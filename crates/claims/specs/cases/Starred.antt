@@ -7,9 +7,8 @@ use Rattle.theory.specs.Fold.{tabulate}
 use Rattle.theory.specs.Answer.{Answer, accepted, onAccepted}
 use Rattle.theory.specs.Game.{Game}
 use Rattle.theory.specs.Play.{Play, last, index, back, Rule}
-use Rattle.theory.specs.Rounds.{finalRanks, masks}
-use Rattle.theory.specs.Delay.{Verdict, wins, losing, arena, flags}
 use Rattle.theory.specs.Exact.{playOf}
+use Rattle.theory.specs.cases.Games.{Result, winsBy, losesAt, resultBy}
 use Rattle.sheet.specs.Limits.{mostNodes}
 use Rattle.sheet.specs.Reading.{delayOf}
 use Rattle.sheet.specs.SheetGame.{gameOf}
@@ -18,15 +17,6 @@ use Rattle.solver.specs.Solving.{solveAnswer}
 use Rattle.table.specs.TableSheet.{decode}
 use Rattle.maker.specs.Making.{Made, won, lost, makeAnswer}
 use Rattle.controller.specs.Accuracy.{Call, observe, act, Response, accepts, acts, refuses, Progress, begun, reply, callStep, exactPlay}
-
--- winning: the first words' flags and the masks; losing at m: the ranks there
-pub data Result : Type 0 where
-  winsBy : List ℕ → List ℕ → Result
-  losesAt : ℕ → List ℕ → Result
-
-unfoldable pub resultBy : Game → ℕ → Verdict → Result
-resultBy G d wins = winsBy (flags G d) (masks (arena G d))
-resultBy G d (losing m) = losesAt m (finalRanks (arena G m))
 
 -- the yard's rule that takes the last of the moves
 unfoldable pub lastMove : Game → Rule

@@ -38,12 +38,12 @@ gameFrom actions p c u =
 
 -- winning: the first words' flags and the masks; losing m: the ranks at m
 pub data Result : Type 0 where
-  won : List ℕ → List ℕ → Result
-  lost : ℕ → List ℕ → Result
+  winsBy : List ℕ → List ℕ → Result
+  losesAt : ℕ → List ℕ → Result
 
 unfoldable pub resultBy : Game → ℕ → Verdict → Result
-resultBy G d wins = won (flags G d) (masks (arena G d))
-resultBy G d (losing m) = lost m (finalRanks (arena G m))
+resultBy G d wins = winsBy (flags G d) (masks (arena G d))
+resultBy G d (losing m) = losesAt m (finalRanks (arena G m))
 
 unfoldable pub resultOf : Game → ℕ → Result
 resultOf G d = resultBy G d (answer G d)
@@ -81,12 +81,12 @@ turned = gameFrom 2 (0 ∷ 0 ∷ 1 ∷ 2 ∷ 2 ∷ []) (0 ∷ 0 ∷ 4 ∷ 1 ∷ 
 -- once and ranks that follow the order of visiting, `chained` at 1 the asked delay named in the place of the least
 unfoldable pub cases : List Case
 cases =
-    (case passing 2 (won (1 ∷ 0 ∷ []) (1 ∷ 0 ∷ 0 ∷ 0 ∷ 0 ∷ 0 ∷ 0 ∷ 0 ∷ [])))
-    ∷ (case passing 3 (won (1 ∷ 0 ∷ 0 ∷ 0 ∷ []) (0 ∷ 0 ∷ 0 ∷ 0 ∷ 1 ∷ 0 ∷ 0 ∷ 0 ∷ [])))
-    ∷ (case passing 4 (won (1 ∷ 0 ∷ 0 ∷ 0 ∷ []) (1 ∷ 0 ∷ 0 ∷ 0 ∷ 0 ∷ 0 ∷ 0 ∷ 0 ∷ 0 ∷ 0 ∷ 0 ∷ 0 ∷ 0 ∷ 0 ∷ 0 ∷ 0 ∷ [])))
-    ∷ (case chosen 2 (won (0 ∷ 1 ∷ []) (0 ∷ 2 ∷ 0 ∷ 0 ∷ 0 ∷ 0 ∷ 0 ∷ 0 ∷ 0 ∷ 0 ∷ [])))
-    ∷ (case slow 3 (lost 3 (0 ∷ 0 ∷ 0 ∷ 0 ∷ 0 ∷ 0 ∷ 4 ∷ 2 ∷ 2 ∷ 3 ∷ [])))
-    ∷ (case chained 0 (lost 0 (2 ∷ 3 ∷ 0 ∷ 0 ∷ [])))
-    ∷ (case chained 1 (lost 0 (2 ∷ 3 ∷ 0 ∷ 0 ∷ [])))
-    ∷ (case turned 1 (lost 1 (0 ∷ 0 ∷ 0 ∷ 2 ∷ 3 ∷ [])))
+    (case passing 2 (winsBy (1 ∷ 0 ∷ []) (1 ∷ 0 ∷ 0 ∷ 0 ∷ 0 ∷ 0 ∷ 0 ∷ 0 ∷ [])))
+    ∷ (case passing 3 (winsBy (1 ∷ 0 ∷ 0 ∷ 0 ∷ []) (0 ∷ 0 ∷ 0 ∷ 0 ∷ 1 ∷ 0 ∷ 0 ∷ 0 ∷ [])))
+    ∷ (case passing 4 (winsBy (1 ∷ 0 ∷ 0 ∷ 0 ∷ []) (1 ∷ 0 ∷ 0 ∷ 0 ∷ 0 ∷ 0 ∷ 0 ∷ 0 ∷ 0 ∷ 0 ∷ 0 ∷ 0 ∷ 0 ∷ 0 ∷ 0 ∷ 0 ∷ [])))
+    ∷ (case chosen 2 (winsBy (0 ∷ 1 ∷ []) (0 ∷ 2 ∷ 0 ∷ 0 ∷ 0 ∷ 0 ∷ 0 ∷ 0 ∷ 0 ∷ 0 ∷ [])))
+    ∷ (case slow 3 (losesAt 3 (0 ∷ 0 ∷ 0 ∷ 0 ∷ 0 ∷ 0 ∷ 4 ∷ 2 ∷ 2 ∷ 3 ∷ [])))
+    ∷ (case chained 0 (losesAt 0 (2 ∷ 3 ∷ 0 ∷ 0 ∷ [])))
+    ∷ (case chained 1 (losesAt 0 (2 ∷ 3 ∷ 0 ∷ 0 ∷ [])))
+    ∷ (case turned 1 (losesAt 1 (0 ∷ 0 ∷ 0 ∷ 2 ∷ 3 ∷ [])))
     ∷ []
