@@ -53,8 +53,28 @@ hall-made = refl
 
 hall-true : Truthful (gameOf (hall 2)) hallTable (lastMove (gameOf (hall 2))) begun hallCalls
 unfolding claims-compute lastMove hallTable hallCalls
-hall-true =
-    (tt, (λ l u. (leb-true 0 2 refl, refl), (λ l u. (leb-true 0 2 refl, refl), (tt, (λ l u. (leb-true 4 4 refl, refl), (tt, (λ l u. (leb-true 2 4 refl, refl), (λ l u. absurd (omega arith), (λ l u. absurd (omega arith), (λ l u. (leb-true 3 4 refl, refl), (tt, (tt, (tt, tt)))))))))))))
+hall-true = (
+  tt,
+  (
+    λ l u. (leb-true 0 2 refl, refl),
+    (
+      λ l u. (leb-true 0 2 refl, refl),
+      (
+        tt,
+        (
+          λ l u. (leb-true 4 4 refl, refl),
+          (
+            tt,
+            (
+              λ l u. (leb-true 2 4 refl, refl),
+              (λ l u. absurd (omega arith), (λ l u. absurd (omega arith), (λ l u. (leb-true 3 4 refl, refl), (tt, (tt, (tt, tt)))))),
+            ),
+          ),
+        ),
+      ),
+    ),
+  ),
+)
 
 -- demand 3 holds of the hall with this rule and these calls, from the bytes alone
 pub hall-accurate : Accurate (gameOf (hall 2)) hallTable (lastMove (gameOf (hall 2))) hallCalls

@@ -44,7 +44,8 @@ pub record TableFor (G : Game) (d : ℕ) (mask-buffer rank-buffer masks-now rank
   pub kept-wins : WinningSet G d (IsKept G d)
   pub kept-largest : (S : ℕ → Type 0) → WinningSet G d S → (k : ℕ) → arena G d .right k ≡ true → S k → IsKept G d k
   -- a node's mask allows exactly the actions that stay in it
-  pub masks : (k c : ℕ) → k < arena G d .nodes → (bit (getD masks-now k 0) c ≡ true) ↔ (IsKept G d k × (c < G .actions) × StaysIn G d (IsKept G d) k c)
+  pub masks : (k c : ℕ) → k < arena G d .nodes
+      → (bit (getD masks-now k 0) c ≡ true) ↔ (IsKept G d k × (c < G .actions) × StaysIn G d (IsKept G d) k c)
   -- a fallen node's rank is its round
   pub ranks : (n k : ℕ) → k < arena G d .nodes → (getD ranks-now k 0 ≡ suc n) ↔ FallsIn G d n k
   -- entries beyond the nodes are as they came in

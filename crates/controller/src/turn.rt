@@ -63,7 +63,8 @@ fn word_of(actions: u8, last: [u8; 3], n: usize) -> usize
 // The mask of the node of a position and the actions held.
 pub(crate) fn mask_at(l: TableLayout, masks: &[u8], position: u8, last: [u8; 3]) -> u8
     requires { ⌜ (l .actions ≤ mostActions) × (l .delay ≤ mostDelay) ⌝ }
-    ensures { λ r. ⌜ r ≡ getD (now (masks .entry)) (position * l .actions ^ (l .delay / 2) + wordOf (l .actions) (take (l .delay / 2) last)) 0 ⌝ }
+    ensures { λ r. ⌜ r
+        ≡ getD (now (masks .entry)) (position * l .actions ^ (l .delay / 2) + wordOf (l .actions) (take (l .delay / 2) last)) 0 ⌝ }
 {
     let pending = wide(l.delay) / 2;
     let words = power(l.actions, pending);

@@ -11,7 +11,8 @@ use lib.ListN.{length, getD, set, replicate}
 use borrow.Author.Needs.{needs}
 use borrow.Author.Tests.{le-leb, lt-leb, lt-ltb, le-ltb, eq-eqb, ne-eqb}
 use Rattle.theory.specs.Fold.{either, allBelow, anyBelow, tabulate}
-use Rattle.theory.proofs.Fold.{both-true, both-false, either-left, either-right, either-first, all-none, all-done, any-suc, both-none, both-second, either-second, failed, passed, all-next, all-stopped, getD-tabulate, tabulate-set}
+use Rattle.theory.proofs.Fold.{both-true, both-false, either-left, either-right, either-first, all-none, all-done, any-suc, both-none, both-second, either-second, failed, passed, all-next}
+use Rattle.theory.proofs.Fold.{all-stopped, getD-tabulate, tabulate-set}
 use Rattle.sheet.specs.Kinds.{controllerAt, environmentAt}
 use Rattle.sheet.specs.Checks.{headerOk, keyAt, risesAt, targetOk, targetsOk, moveOk, movesOk, beginsAt, hasLine, leavesAt, leavesBy, allLeave}
 

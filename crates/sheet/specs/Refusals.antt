@@ -1,7 +1,9 @@
 -- Document 01's number for each refusal, under "What each operation says no to". Assumes nothing.
 use Prim.Native.Nat.{ℕ}
 use Rattle.sheet.specs.declared.refusal.Refusal.{Refusal}
-use Rattle.sheet.specs.declared.refusal.Refusal.the-variants.{Contents, Positions, Header, Targets, Moves, Stuck, Size, Buffers, Output, TableContents, TableShape, NoInitialWord, Unobserved, NoAction, LastTurn, UnknownPosition, TooOld, TooNew, Contradiction, State}
+use Rattle.sheet.specs.declared.refusal.Refusal.the-variants.{Contents, Positions, Header, Targets, Moves, Stuck, Size, Buffers}
+use Rattle.sheet.specs.declared.refusal.Refusal.the-variants.{Output, TableContents, TableShape, NoInitialWord, Unobserved, NoAction}
+use Rattle.sheet.specs.declared.refusal.Refusal.the-variants.{LastTurn, UnknownPosition, TooOld, TooNew, Contradiction, State}
 
 abbrev pub numberOf : Refusal → ℕ
 numberOf Contents = 1

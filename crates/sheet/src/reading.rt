@@ -18,10 +18,9 @@ use crate::size::size_ok;
 ghost use mathlib.Core.Path.{_≡_};
 ghost use Prim.Native.Nat.{_≤_};
 ghost use lib.ListN.{length};
-ghost use Rattle.theory.specs.Answer.{accepted, check};
 ghost use Rattle.sheet.specs.Limits.{mostPositions};
-ghost use Rattle.sheet.specs.Checks.{headerOk, targetsOk, movesOk, allLeave, sizeOk};
-ghost use Rattle.sheet.specs.Reading.{layoutOf, readAnswer, readingMeans, refusalNumber};
+ghost use Rattle.sheet.specs.Checks.{headerOk};
+ghost use Rattle.sheet.specs.Reading.{layoutOf, readAnswer, linesAnswer, readingMeans, refusalNumber};
 
 // What an accepted reading carries: the start bytes and the places of the bodies.
 pub struct Layout {
@@ -87,7 +86,7 @@ fn layout_at(s: &[u8]) -> Layout
 // Checks 4 to 7, and acceptance.
 fn check_lines(l: Layout, p: &[u8], c: &[u8], u: &[u8]) -> Reading
     requires { ⌜ length (now p) ≤ mostPositions ⌝ }
-    ensures { λ r. ⌜ readingMeans r ≡ check (targetsOk (now (p .entry)) (l .actions) (now (c .entry))) 4 (check (movesOk (now (p .entry)) (now (u .entry))) 5 (check (allLeave (now (p .entry)) (now (c .entry)) (now (u .entry))) 6 (check (sizeOk (now (p .entry)) (l .actions) (l .delay)) 7 (accepted l)))) ⌝ }
+    ensures { λ r. ⌜ readingMeans r ≡ linesAnswer (now (p .entry)) (now (c .entry)) (now (u .entry)) l ⌝ }
 {
     if !targets_ok(p, l.actions, c) {
         return Reading::Refused(Refusal::Targets);

@@ -23,7 +23,8 @@ use Rattle.sheet.specs.Checks.{powerTo, nodesOf}
 use Rattle.sheet.specs.Refusals.{numberOf}
 use Rattle.sheet.specs.declared.form.Place.{Place}
 use Rattle.sheet.specs.declared.refusal.Refusal.{Refusal}
-use Rattle.table.specs.TableSheet.{TableSheet, tableLetters, tableLayout, says, tableAt, decode, tableNodes, numbersOk, belowAt, bytesBelow, bodiesOk, shapeAnswer, someFlagged, tableAnswer, masksIn, masksOf, tableReadingMeans}
+use Rattle.table.specs.TableSheet.{TableSheet, tableLetters, tableLayout, says, tableAt, decode, tableNodes, numbersOk, belowAt, bytesBelow, bodiesOk, shapeAnswer, someFlagged, tableAnswer}
+use Rattle.table.specs.TableSheet.{masksIn, masksOf, tableReadingMeans}
 use Rattle.table.specs.declared.reading.TableLayout.{TableLayout}
 use Rattle.table.specs.declared.reading.TableReading.{TableReading}
 use Rattle.table.specs.declared.reading.TableReading.the-variants.{Accepted, Refused}

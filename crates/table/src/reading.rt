@@ -17,7 +17,8 @@ ghost use mathlib.Core.Path.{_≡_};
 ghost use mathlib.Core.List.{[]};
 ghost use Prim.Native.Nat.{_+_, _≤_};
 ghost use Rattle.sheet.specs.Limits.{mostActions, mostDelay};
-ghost use Rattle.table.specs.TableSheet.{tableLayout, says, numbersOk, bytesBelow, bodiesOk, shapeAnswer, someFlagged, tableAnswer, masksOf, tableReadingMeans};
+ghost use Rattle.table.specs.TableSheet.{tableLayout, says, numbersOk, bytesBelow, bodiesOk, shapeAnswer, someFlagged, tableAnswer};
+ghost use Rattle.table.specs.TableSheet.{masksOf, tableReadingMeans};
 
 // What an accepted reading carries: the start bytes and the places of the W and T bodies.
 pub struct TableLayout {

@@ -85,8 +85,10 @@ controllerCases =
     (acts 0 ∷ accepts ∷ acts 0 ∷ accepts ∷ refuses 13 ∷ accepts ∷ acts 0 ∷ acts 1 ∷ refuses 13 ∷ [])
     ∷ plays (hall 2) 5 (3 ∷ 5 ∷ 1 ∷ 6 ∷ 3 ∷ 5 ∷ 1 ∷ 6 ∷ 2 ∷ 4 ∷ 0 ∷ [])
     ∷ answers (alternating 4)
-    (observe 0 0 ∷ observe 1 0 ∷ act ∷ observe 0 1 ∷ observe 0 5 ∷ observe 0 0 ∷ observe 2 1 ∷ act ∷ act ∷ act ∷ observe 1 3 ∷ observe 4 2 ∷ act ∷ act ∷ [])
-    (accepts ∷ refuses 18 ∷ acts 0 ∷ refuses 19 ∷ refuses 16 ∷ accepts ∷ accepts ∷ acts 1 ∷ acts 0 ∷ acts 1 ∷ refuses 17 ∷ accepts ∷ acts 0 ∷ refuses 13 ∷ [])
+    (observe 0 0 ∷ observe 1 0 ∷ act ∷ observe 0 1 ∷ observe 0 5 ∷ observe 0 0 ∷ observe 2 1 ∷ act ∷ act ∷ act
+    ∷ observe 1 3 ∷ observe 4 2 ∷ act ∷ act ∷ [])
+    (accepts ∷ refuses 18 ∷ acts 0 ∷ refuses 19 ∷ refuses 16 ∷ accepts ∷ accepts ∷ acts 1 ∷ acts 0 ∷ acts 1
+    ∷ refuses 17 ∷ accepts ∷ acts 0 ∷ refuses 13 ∷ [])
     ∷ plays (alternating 4) 4 (2 ∷ 4 ∷ 1 ∷ 3 ∷ 2 ∷ 4 ∷ 1 ∷ 3 ∷ 0 ∷ [])
     ∷ []
 
@@ -103,4 +105,6 @@ hallTable =
 
 -- calls to it: true reports, a repeat, false reports of indices out of the window, and refused calls
 unfoldable pub hallCalls : List Call
-hallCalls = act ∷ observe 0 0 ∷ observe 0 0 ∷ act ∷ observe 4 1 ∷ act ∷ observe 2 2 ∷ observe 5 0 ∷ observe 1 6 ∷ observe 3 6 ∷ act ∷ act ∷ act ∷ []
+hallCalls =
+    act ∷ observe 0 0 ∷ observe 0 0 ∷ act ∷ observe 4 1 ∷ act ∷ observe 2 2 ∷ observe 5 0 ∷ observe 1 6
+    ∷ observe 3 6 ∷ act ∷ act ∷ act ∷ []
