@@ -25,6 +25,10 @@ mostMoves = 4096
 abbrev pub mostNodes : ℕ
 mostNodes = 16384
 
+-- the most first words: three actions out of the most
+abbrev pub mostWords : ℕ
+mostWords = 512
+
 -- where code cuts powers off, far above the most nodes
 abbrev pub mostPower : ℕ
 mostPower = 65536

@@ -1,7 +1,7 @@
 // The house form of sheets: contents with two-byte numbers, then the bodies back to back. Every function is total: a byte past
 // the end of a sheet reads as 0, and a part that would pass the end stops there.
 ghost use mathlib.Core.Path.{_≡_};
-ghost use Prim.Native.Nat.{_<_};
+ghost use Prim.Native.Nat.{_%_, _<_};
 ghost use lib.ListN.{getD};
 ghost use Rattle.sheet.specs.Limits.{width};
 ghost use Rattle.sheet.specs.Form.{contentsOk, placedAt, partAt, bodyOf};
@@ -21,6 +21,20 @@ pub fn wide(x: u8) -> usize
     ensures { λ r. ⌜ (r ≡ x) × (x < 256) ⌝ }
 {
     x as usize
+}
+
+// The same of a number of two bytes.
+pub fn wide16(x: u16) -> usize
+    ensures { λ r. ⌜ (r ≡ x) × (x < 65536) ⌝ }
+{
+    x as usize
+}
+
+// The low byte of a number.
+pub fn low_byte(n: usize) -> u8
+    ensures { λ r. ⌜ r ≡ n % 256 ⌝ }
+{
+    (n % 256) as u8
 }
 
 // The byte at an index.

@@ -9,6 +9,9 @@ pub const MOST_MOVES: usize = 4096;
 
 pub const MOST_NODES: usize = 16384;
 
+// The most first words: three actions out of eight.
+pub const MOST_WORDS: usize = 512;
+
 // Where powers are cut off, far above the most nodes.
 pub const MOST_POWER: usize = 65536;
 
