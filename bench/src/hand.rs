@@ -1,17 +1,17 @@
 //! The same reading and the same rounds written by hand over flat arrays: what an engineer would write without proofs.
 
 pub struct Hand {
-    positions: usize,
+    pub positions: usize,
     start: usize,
-    actions: usize,
-    delay: usize,
+    pub actions: usize,
+    pub delay: usize,
     kinds: Vec<u8>,
-    grid: Vec<[u16; 8]>,
+    pub grid: Vec<[u16; 8]>,
     first: Vec<usize>,
     to: Vec<u8>,
 }
 
-const ABSENT: u16 = 256;
+pub const ABSENT: u16 = 256;
 
 /// The bodies of a sheet whose contents are right but for its end, and where the last one ends.
 pub fn bodies<'a, const N: usize>(sheet: &'a [u8], letters: &[u8; N]) -> Option<([&'a [u8]; N], usize)> {
@@ -91,22 +91,20 @@ impl Hand {
         }
     }
 
-    fn own(&self, p: usize) -> bool {
+    pub fn own(&self, p: usize) -> bool {
         self.kinds[p] < 2
     }
 
-    fn safe(&self, p: usize) -> bool {
+    pub fn safe(&self, p: usize) -> bool {
         self.kinds[p] % 2 == 0
     }
 
-    fn moves(&self, p: usize) -> &[u8] {
+    pub fn moves(&self, p: usize) -> &[u8] {
         &self.to[self.first[p]..self.first[p + 1]]
     }
 
-    fn spoilt(&self, odd: bool, power: usize, ranks: &[u16], n: u16, k: usize, c: usize) -> bool {
-        let joined = (k % power) * self.actions + c;
-        let (h, rest) = (joined / power, joined % power);
-        let p = k / power;
+    /// Is a command spoilt at a pair? h is the command that is then played, and rest what is pending after it.
+    fn spoilt(&self, odd: bool, power: usize, ranks: &[u16], n: u16, p: usize, h: usize, rest: usize) -> bool {
         let fallen = |q: usize| {
             let rank = ranks[q * power + rest];
             rank != 0 && rank <= n
@@ -123,25 +121,47 @@ impl Hand {
             || self.moves(target as usize).iter().any(|&r| fallen(r as usize))
     }
 
+    /// Goes over the pairs of the right side: number, position, oldest command and the rest of the word times the commands. Where
+    /// no command is pending the chosen one is the oldest.
+    fn each(&self, odd: bool, power: usize, mut visit: impl FnMut(usize, usize, usize, usize)) {
+        let younger = power / self.actions;
+        for p in (0..self.positions).filter(|&p| self.own(p) != odd) {
+            if power == 1 {
+                visit(p, p, 0, 0);
+                continue;
+            }
+            let mut k = p * power;
+            for h in 0..self.actions {
+                for y in 0..younger {
+                    visit(k, p, h, y * self.actions);
+                    k += 1;
+                }
+            }
+        }
+    }
+
+    fn spoilt_at(&self, odd: bool, power: usize, ranks: &[u16], n: u16, p: usize, h: usize, rest: usize, c: usize) -> bool {
+        if power == 1 {
+            return self.spoilt(odd, power, ranks, n, p, c, 0);
+        }
+        self.spoilt(odd, power, ranks, n, p, h, rest + c)
+    }
+
     fn rounds(&self, delay: usize, ranks: &mut [u16]) -> u16 {
         let odd = delay % 2 == 1;
         let power = self.actions.pow(delay as u32 / 2);
-        for k in 0..ranks.len() {
-            let p = k / power;
-            ranks[k] = u16::from(self.own(p) != odd && !self.safe(p));
+        for (p, ranks) in ranks.chunks_mut(power).enumerate() {
+            ranks.fill(u16::from(self.own(p) != odd && !self.safe(p)));
         }
         let mut n = 1;
         loop {
             let mut any = false;
-            for k in 0..ranks.len() {
-                if ranks[k] == 0
-                    && self.own(k / power) != odd
-                    && (0..self.actions).all(|c| self.spoilt(odd, power, ranks, n, k, c))
-                {
+            self.each(odd, power, |k, p, h, rest| {
+                if ranks[k] == 0 && (0..self.actions).all(|c| self.spoilt_at(odd, power, ranks, n, p, h, rest, c)) {
                     ranks[k] = n + 1;
                     any = true;
                 }
-            }
+            });
             if !any {
                 return n;
             }
@@ -149,7 +169,7 @@ impl Hand {
         }
     }
 
-    fn wins(&self, delay: usize, ranks: &[u16]) -> bool {
+    pub fn wins(&self, delay: usize, ranks: &[u16]) -> bool {
         let odd = delay % 2 == 1;
         let power = self.actions.pow(delay as u32 / 2);
         if !odd {
@@ -171,14 +191,14 @@ impl Hand {
             let lost = !self.wins(delay, ranks);
             if lost || delay == self.delay {
                 let odd = delay % 2 == 1;
-                for k in 0..nodes {
-                    masks[k] = 0;
-                    if ranks[k] == 0 && self.own(k / power) != odd {
+                masks[..nodes].fill(0);
+                self.each(odd, power, |k, p, h, rest| {
+                    if ranks[k] == 0 {
                         for c in 0..self.actions {
-                            masks[k] |= u8::from(!self.spoilt(odd, power, &ranks[..nodes], n, k, c)) << c;
+                            masks[k] |= u8::from(!self.spoilt_at(odd, power, &ranks[..nodes], n, p, h, rest, c)) << c;
                         }
                     }
-                }
+                });
                 return if lost { Some(delay as u8) } else { None };
             }
         }

@@ -1,71 +1,113 @@
-//! The proved solver against a hand-written version of the same rounds and against the naive solver, and the proved cabin against a
-//! hand-written one, in one run on one machine.
+//! The proved solver against two hand-written versions of the same rounds, and the proved cabin against a hand-written one, in one run on
+//! one machine.
 use loquatquoits_tests::naive::{self, Game, Rule, Verdict};
 use loquatquoits_tests::proved;
 use loquatquoits_tests::random::Random;
-use loquatquoits_tests::sheets::{random_yard, Shape, Yard};
+use loquatquoits_tests::sheets::{self, random_yard, Shape, Yard};
 use std::time::{Duration, Instant};
+use worst::{worst, Worst};
 
+mod bits;
 mod cabin;
 mod hand;
+mod worst;
 
-/// The least times of two runs, taken in turn so that whatever else the machine does meets both alike: at least 30 runs of each, and
-/// more until half a second is spent.
-fn compare(mut one: impl FnMut(), mut other: impl FnMut()) -> (Duration, Duration) {
+/// The least times of some versions, taken in turn so that whatever else the machine does meets all alike: at least so many runs of each,
+/// and more until half a second is spent.
+fn compare<const N: usize>(runs: usize, mut versions: [&mut dyn FnMut(); N]) -> [Duration; N] {
     let begun = Instant::now();
-    let mut least = (Duration::MAX, Duration::MAX);
-    let mut runs = 0;
-    while runs < 30 || begun.elapsed() < Duration::from_millis(500) {
-        least.0 = least.0.min(time(&mut one));
-        least.1 = least.1.min(time(&mut other));
-        runs += 1;
+    let mut least = [Duration::MAX; N];
+    let mut done = 0;
+    while done < runs || begun.elapsed() < Duration::from_millis(500) {
+        for (version, least) in versions.iter_mut().zip(&mut least) {
+            *least = (*least).min(time(version));
+        }
+        done += 1;
     }
     least
 }
 
-fn time(run: &mut impl FnMut()) -> Duration {
+fn time(run: &mut dyn FnMut()) -> Duration {
     let start = Instant::now();
     run();
     start.elapsed()
 }
 
-fn measure(name: &str, yard: &Yard) {
-    let sheet = yard.sheet();
-    let pairs = yard.pairs();
-    let (mut masks, mut ranks) = (vec![0u8; pairs], vec![0u16; pairs]);
-    let game = hand::Hand::new(&sheet);
-    let answer = proved::solve(&sheet, &mut masks, &mut ranks).unwrap();
-    let (mut hand_masks, mut hand_ranks) = (vec![0u8; pairs], vec![0u16; pairs]);
-    assert_eq!(game.solve(&mut hand_masks, &mut hand_ranks), answer);
-    assert_eq!((&masks, &ranks), (&hand_masks, &hand_ranks));
-    let rounds = *ranks.iter().max().unwrap();
+fn ratio(one: Duration, other: Duration) -> f64 {
+    one.as_secs_f64() / other.as_secs_f64()
+}
 
-    let (by_proof, by_hand) = compare(
-        || {
-            proved::solve(&sheet, &mut masks, &mut ranks).unwrap();
-        },
-        || {
-            hand::Hand::new(&sheet).solve(&mut hand_masks, &mut hand_ranks);
-        },
+fn milliseconds(time: Duration) -> f64 {
+    time.as_secs_f64() * 1e3
+}
+
+/// What a version leaves in its buffers, and its answer.
+struct Buffers {
+    masks: Vec<u8>,
+    ranks: Vec<u16>,
+}
+
+impl Buffers {
+    fn new(pairs: usize) -> Buffers {
+        Buffers { masks: vec![0; pairs], ranks: vec![0; pairs] }
+    }
+}
+
+/// The three versions' times on a yard, after their answers were compared. By hand runs but once where it takes long.
+fn versions(yard: &Yard, runs: usize) -> ([Duration; 3], u16) {
+    let sheet = yard.sheet();
+    let [mut ours, mut hand, mut bits] = [(); 3].map(|()| Buffers::new(yard.pairs()));
+    let game = hand::Hand::new(&sheet);
+    let answer = proved::solve(&sheet, &mut ours.masks, &mut ours.ranks).unwrap();
+    assert_eq!(bits::solve(&game, &mut bits.masks, &mut bits.ranks), answer);
+    assert_eq!((&ours.masks, &ours.ranks), (&bits.masks, &bits.ranks));
+    let mut by_hand = || {
+        let answer = hand::Hand::new(&sheet).solve(&mut hand.masks, &mut hand.ranks);
+        std::hint::black_box(answer);
+    };
+    let long = runs < 30;
+    let once = if long { time(&mut by_hand) } else { Duration::MAX };
+    let mut by_proof = || drop(proved::solve(&sheet, &mut ours.masks, &mut ours.ranks));
+    let mut by_bits = || drop(bits::solve(&hand::Hand::new(&sheet), &mut bits.masks, &mut bits.ranks));
+    let times = if long {
+        let [a, c] = compare(runs, [&mut by_proof, &mut by_bits]);
+        [a, once, c]
+    } else {
+        compare(runs, [&mut by_proof, &mut by_hand, &mut by_bits])
+    };
+    assert_eq!((&ours.masks, &ours.ranks), (&hand.masks, &hand.ranks));
+    let rounds = *ours.ranks.iter().max().unwrap();
+    (times, rounds)
+}
+
+fn row(name: &str, yard: &Yard, runs: usize) {
+    let ([proved, hand, bits], rounds) = versions(yard, runs);
+    print!(
+        "| {name} | {} | {rounds} | {:.3} ms | {:.3} ms | {:.2} | {:.3} ms | {:.2} |",
+        yard.pairs(),
+        milliseconds(proved),
+        milliseconds(hand),
+        ratio(proved, hand),
+        milliseconds(bits),
+        ratio(proved, bits),
     );
+}
+
+fn measure(name: &str, yard: &Yard) {
+    row(name, yard, 30);
+    let sheet = yard.sheet();
     let mut verdict = None;
     let naively = time(&mut || {
         let read = naive::read(&sheet).unwrap();
         verdict = Some(Game::of(&sheet, &read).solve(read.delay, Rule::Document));
     });
-    let losing = match verdict.unwrap() {
+    let n = yard.pairs();
+    let answer = proved::solve(&sheet, &mut vec![0; n], &mut vec![0; n]).unwrap();
+    assert_eq!(answer, match verdict.unwrap() {
         Verdict::Winning(_) => None,
         Verdict::Losing(m, _) => Some(m),
-    };
-    assert_eq!(losing, answer);
-    println!(
-        "| {name} | {pairs} | {rounds} | {:.3} ms | {:.3} ms | {:.2} | {:.0} ms | {:.0} |",
-        by_proof.as_secs_f64() * 1e3,
-        by_hand.as_secs_f64() * 1e3,
-        by_proof.as_secs_f64() / by_hand.as_secs_f64(),
-        naively.as_secs_f64() * 1e3,
-        naively.as_secs_f64() / by_proof.as_secs_f64(),
-    );
+    });
+    println!(" {:.0} ms |", milliseconds(naively));
 }
 
 /// A random yard in which the asked lag wins, so that the rounds go through all of its pairs: with every command permitted and, if need
@@ -101,48 +143,9 @@ fn round_about() -> Yard {
     Yard { start: 0, actions: 8, delay: 4, kinds: (0..256).map(|p| if p % 2 == 0 { 0 } else { 2 }).collect(), targets, moves }
 }
 
-/// Turns a second at the largest table: each turn hears the report that is needed and gives the command.
-fn measure_cabin() {
-    let yard = round_about();
-    let n = yard.pairs();
-    let (sheet, losing) = proved::make(&yard.sheet(), &mut vec![0; n], &mut vec![0; n], 50_000).unwrap();
-    assert_eq!(losing, None);
-    let position = |index: usize| (index % 256) as u8;
-    let turns = 1_000;
-    let (by_proof, by_hand) = compare(
-        || {
-            let mut state = proved::open(&sheet).unwrap();
-            for i in 0..turns {
-                if 2 * i >= 4 {
-                    proved::observe(&sheet, &mut state, 2 * i - 4, position(2 * i - 4)).unwrap();
-                }
-                assert_eq!(proved::act(&sheet, &mut state), Ok(0));
-            }
-        },
-        || {
-            let mut cabin = cabin::Cabin::open();
-            for i in 0..turns {
-                if 2 * i >= 4 {
-                    assert!(cabin.observe(&sheet, 2 * i - 4, position(2 * i - 4)));
-                }
-                assert_eq!(cabin.act(&sheet), Some(0));
-            }
-        },
-    );
-    let rate = |time: Duration| turns as f64 / time.as_secs_f64();
-    println!("| cabin | turns a second, proved | by hand | proved / by hand, time |");
-    println!("|---|---|---|---|");
-    println!(
-        "| {n} pairs, every call reads the sheet | {:.0} | {:.0} | {:.2} |",
-        rate(by_proof),
-        rate(by_hand),
-        by_proof.as_secs_f64() / by_hand.as_secs_f64()
-    );
-}
-
-fn main() {
-    println!("| yard | pairs | rounds | proved | by hand | proved / by hand | naive | naive / proved |");
-    println!("|---|---|---|---|---|---|---|---|");
+fn yards() {
+    println!("| yard | pairs | rounds | proved | by hand | proved / by hand | bits | proved / bits | naive |");
+    println!("|---|---|---|---|---|---|---|---|---|");
     // sparser yards, most of which lose at a small lag, so that reading the sheet is most of the work
     let mut random = Random::new(4);
     for (actions, delay, own, environment, moves, unsafe_positions) in
@@ -163,5 +166,86 @@ fn main() {
     }
     measure("chain of 127 links, lag 0", &chain(127));
     println!();
-    measure_cabin();
+}
+
+/// Yards on which one pair falls a round while the others stand.
+fn worst_yards() {
+    println!("| worst yard | pairs | rounds | proved | by hand, once | proved / by hand | bits | proved / bits |");
+    println!("|---|---|---|---|---|---|---|---|");
+    let even = Worst { actions: 8, layers: 0, rows: 8, ballast: 155, width: 0, touched: false, delay: 4 };
+    let odd = Worst { actions: 8, layers: 1, rows: 9, ballast: 62, width: 62, touched: false, delay: 5 };
+    for (name, shape) in [
+        ("E4", even),
+        ("E4 touched", Worst { rows: 7, ballast: 172, touched: true, ..even }),
+        ("E2 touched, lag 2", Worst { rows: 7, ballast: 172, touched: true, delay: 2, ..even }),
+        ("O5", odd),
+        ("O5 touched", Worst { rows: 9, ballast: 55, width: 60, touched: true, ..odd }),
+        ("O5 touched, wide", Worst { rows: 4, ballast: 50, width: 70, touched: true, ..odd }),
+    ] {
+        row(name, &worst(&shape, 1), 5);
+        println!();
+    }
+    println!();
+}
+
+/// Turns a second over a table: each turn hears the report that is needed and gives the command.
+fn measure_cabin(name: &str, yard: &Yard) {
+    let n = yard.pairs();
+    let (sheet, losing) = proved::make(&yard.sheet(), &mut vec![0; n], &mut vec![0; n], 50_000).unwrap();
+    assert_eq!(losing, None);
+    let delay = yard.delay as usize;
+    let turns = 1_000;
+    // the play against the yard that always makes its first move, worked out once
+    let mut positions = vec![yard.start];
+    let mut commands = Vec::new();
+    let mut state = proved::open(&sheet).unwrap();
+    for i in 0..turns {
+        if 2 * i >= delay {
+            proved::observe(&sheet, &mut state, 2 * i - delay, positions[2 * i - delay]).unwrap();
+        }
+        let command = proved::act(&sheet, &mut state).unwrap();
+        let target = yard.targets.iter().find(|line| line[0] == positions[2 * i] && line[1] == command).unwrap()[2];
+        positions.extend([target, yard.moves.iter().find(|line| line[0] == target).unwrap()[1]]);
+        commands.push(command);
+    }
+    let [by_proof, by_hand] = compare(
+        30,
+        [
+            &mut || {
+                let mut state = proved::open(&sheet).unwrap();
+                for i in 0..turns {
+                    if 2 * i >= delay {
+                        proved::observe(&sheet, &mut state, 2 * i - delay, positions[2 * i - delay]).unwrap();
+                    }
+                    assert_eq!(proved::act(&sheet, &mut state), Ok(commands[i]));
+                }
+            },
+            &mut || {
+                let mut cabin = cabin::Cabin::open();
+                for i in 0..turns {
+                    if 2 * i >= delay {
+                        assert!(cabin.observe(&sheet, 2 * i - delay, positions[2 * i - delay]));
+                    }
+                    assert_eq!(cabin.act(&sheet), Some(commands[i]));
+                }
+            },
+        ],
+    );
+    let nanoseconds = |time: Duration| time.as_secs_f64() * 1e9 / turns as f64;
+    println!("| {name} | {n} | {:.0} ns | {:.0} ns | {:.2} |", nanoseconds(by_proof), nanoseconds(by_hand), ratio(by_proof, by_hand));
+}
+
+fn cabins() {
+    println!("| cabin, a turn being a hearing and a giving | pairs | proved | by hand | proved / by hand |");
+    println!("|---|---|---|---|---|");
+    measure_cabin("the sorting hall, lag 2", &sheets::hall().at(2));
+    measure_cabin("the loop, lag 6", &sheets::looped().at(6));
+    measure_cabin("the longer hall, lag 4", &sheets::long_hall().at(4));
+    measure_cabin("the largest table", &round_about());
+}
+
+fn main() {
+    yards();
+    worst_yards();
+    cabins();
 }

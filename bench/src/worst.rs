@@ -1,0 +1,274 @@
+//! Yards on which few pairs fall in each round while many stand: chains that lose one pair a round, beside ballast that never falls and
+//! whose moves are long to look through.
+use loquatquoits_tests::random::Random;
+use loquatquoits_tests::sheets::Yard;
+
+/// Positions and lines as they are added, ordered at the end.
+struct Plan {
+    kinds: Vec<u8>,
+    targets: Vec<[u8; 3]>,
+    moves: Vec<[u8; 2]>,
+    actions: u8,
+}
+
+impl Plan {
+    fn new(actions: u8) -> Plan {
+        Plan { kinds: Vec::new(), targets: Vec::new(), moves: Vec::new(), actions }
+    }
+
+    fn add(&mut self, kind: u8) -> u8 {
+        self.kinds.push(kind);
+        (self.kinds.len() - 1) as u8
+    }
+
+    fn own(&mut self) -> u8 {
+        self.add(0)
+    }
+
+    fn other(&mut self) -> u8 {
+        self.add(2)
+    }
+
+    fn target(&mut self, from: u8, command: usize, to: u8) {
+        self.targets.push([from, command as u8, to]);
+    }
+
+    /// Every command leads to one position.
+    fn any(&mut self, from: u8, to: u8) {
+        for command in 0..self.actions as usize {
+            self.target(from, command, to);
+        }
+    }
+
+    fn moves(&mut self, from: u8, to: u8) {
+        self.moves.push([from, to]);
+    }
+
+    fn yard(mut self, start: u8, delay: u8) -> Yard {
+        self.targets.sort_unstable();
+        self.moves.sort_unstable();
+        self.moves.dedup();
+        Yard { start, actions: self.actions, delay, kinds: self.kinds, targets: self.targets, moves: self.moves }
+    }
+}
+
+fn permutation(random: &mut Random, n: usize) -> Vec<usize> {
+    let mut items: Vec<usize> = (0..n).collect();
+    for i in (1..n).rev() {
+        items.swap(i, random.below(i + 1));
+    }
+    items
+}
+
+/// What a worst yard is made of.
+#[derive(Clone, Copy)]
+pub struct Worst {
+    pub actions: usize,
+    /// 0: even lag, the needed command follows from the last one; 1: odd lag, from the last two.
+    pub layers: usize,
+    /// Rows of the chain: it has rows × letters positions.
+    pub rows: usize,
+    /// Ballast: so many positions whose pairs stand for ever.
+    pub ballast: usize,
+    /// Moves of each ballast position at an odd lag.
+    pub width: usize,
+    /// Does what falls in each round touch the ballast?
+    pub touched: bool,
+    pub delay: u8,
+}
+
+/// The longest chain of some tries: the yard, and how many links it has.
+pub fn worst(shape: &Worst, seed: u64) -> Yard {
+    let mut random = Random::new(seed);
+    let mut best: Option<(usize, Chain)> = None;
+    for _ in 0..400 {
+        let chain = Chain::random(&mut random, shape);
+        let (length, _) = chain.longest();
+        if best.as_ref().is_none_or(|(most, _)| length > *most) {
+            best = Some((length, chain));
+        }
+    }
+    best.unwrap().1.yard(shape)
+}
+
+/// The permutations of a chain. Its letters are the commands, without the last one where the ballast is touched.
+struct Chain {
+    letters: usize,
+    rows: usize,
+    layers: usize,
+    /// Row i and letter x lead to a position (row, column).
+    next: Vec<usize>,
+    /// By letter: column to gadget; by letter: gadget to gadget.
+    first: Vec<Vec<usize>>,
+    second: Vec<Vec<usize>>,
+}
+
+impl Chain {
+    fn random(random: &mut Random, shape: &Worst) -> Chain {
+        let letters = shape.actions - usize::from(shape.touched);
+        Chain {
+            letters,
+            rows: shape.rows,
+            layers: shape.layers,
+            next: permutation(random, shape.rows * letters),
+            first: (0..letters).map(|_| permutation(random, letters)).collect(),
+            second: (0..letters).map(|_| permutation(random, letters)).collect(),
+        }
+    }
+
+    /// The pair after (position, pending letters), by the one command that keeps it alive.
+    fn step(&self, t: usize, x: usize, y: usize) -> (usize, usize, usize) {
+        let (row, column) = (t / self.letters, t % self.letters);
+        let to = self.next[row * self.letters + x];
+        let gadget = self.first[x][column];
+        if self.layers == 0 { (to, gadget, 0) } else { (to, y, self.second[y][gadget]) }
+    }
+
+    /// The length of the longest cycle of pairs, and a pair on it.
+    fn longest(&self) -> (usize, (usize, usize, usize)) {
+        let deep = if self.layers == 0 { 1 } else { self.letters };
+        let number = |(t, x, y): (usize, usize, usize)| (t * self.letters + x) * deep + y;
+        let mut seen = vec![false; self.rows * self.letters * self.letters * deep];
+        let mut best = (0, (0, 0, 0));
+        for t in 0..self.rows * self.letters {
+            for x in 0..self.letters {
+                for y in 0..deep {
+                    let mut at = (t, x, y);
+                    let mut length = 0;
+                    while !seen[number(at)] {
+                        seen[number(at)] = true;
+                        at = self.step(at.0, at.1, at.2);
+                        length += 1;
+                    }
+                    if length > best.0 {
+                        best = (length, (t, x, y));
+                    }
+                }
+            }
+        }
+        best
+    }
+
+    /// A position at which one pair is lost: the one with these pending letters.
+    fn cut(&self, plan: &mut Plan, haven: u8, x: usize, y: usize) -> u8 {
+        let barred = |plan: &mut Plan, letter: usize| {
+            let q = plan.own();
+            for c in (0..plan.actions as usize).filter(|&c| c != letter) {
+                plan.target(q, c, haven);
+            }
+            q
+        };
+        let cut = barred(plan, x);
+        if self.layers == 1 {
+            let (later, end) = (plan.other(), barred(plan, y));
+            plan.target(cut, x, later);
+            plan.moves(later, end);
+        }
+        cut
+    }
+
+    fn yard(&self, shape: &Worst) -> Yard {
+        let mut plan = Plan::new(shape.actions as u8);
+        let spare = shape.touched.then_some(shape.actions - 1);
+        let (safe, haven) = (plan.own(), plan.other());
+        plan.any(safe, haven);
+        plan.moves(haven, safe);
+        // gadget k: after z k only command k is permitted
+        let ends: Vec<u8> = (0..shape.actions)
+            .map(|k| {
+                let (z, e) = (plan.other(), plan.own());
+                plan.moves(z, e);
+                plan.target(e, k, haven);
+                z
+            })
+            .collect();
+        let letters = self.letters;
+        // where the spare letter leads: everywhere it is harmless
+        let gadgets: Vec<u8> = if self.layers == 0 {
+            ends.clone()
+        } else {
+            (0..letters)
+                .map(|s| {
+                    let (m, f) = (plan.other(), plan.own());
+                    plan.moves(m, f);
+                    for y in 0..letters {
+                        plan.target(f, y, ends[self.second[y][s]]);
+                    }
+                    if let Some(c) = spare {
+                        plan.target(f, c, haven);
+                    }
+                    m
+                })
+                .collect()
+        };
+        let columns: Vec<u8> = (0..letters)
+            .map(|column| {
+                let b = plan.own();
+                for x in 0..letters {
+                    plan.target(b, x, gadgets[self.first[x][column]]);
+                }
+                if let Some(c) = spare {
+                    plan.target(b, c, haven);
+                }
+                b
+            })
+            .collect();
+        let links: Vec<u8> = (0..self.rows * letters).map(|_| plan.other()).collect();
+        let rows: Vec<u8> = (0..self.rows)
+            .map(|i| {
+                let n = plan.own();
+                for x in 0..letters {
+                    plan.target(n, x, links[self.next[i * letters + x]]);
+                }
+                if let Some(c) = spare {
+                    plan.target(n, c, haven);
+                }
+                n
+            })
+            .collect();
+        for (t, &link) in links.iter().enumerate() {
+            plan.moves(link, rows[t / letters]);
+            plan.moves(link, columns[t % letters]);
+        }
+        let (_, (t, x, y)) = self.longest();
+        let cut = self.cut(&mut plan, haven, x, y);
+        plan.moves(links[t], cut);
+        let touching: Vec<u8> = if shape.touched { rows } else { Vec::new() };
+        ballast(&mut plan, shape, &ends, &touching, safe);
+        plan.yard(safe, shape.delay)
+    }
+}
+
+/// Pairs that stand for ever: all commands but the last are spoilt by their last line, and the last by none.
+fn ballast(plan: &mut Plan, shape: &Worst, ends: &[u8], touching: &[u8], safe: u8) {
+    let last = shape.actions - 1;
+    if shape.layers == 0 {
+        let hub = plan.other();
+        let own: Vec<u8> = (0..shape.ballast).map(|_| plan.own()).collect();
+        let snare = plan.own();
+        plan.any(snare, ends[last]);
+        for &q in &own {
+            plan.any(q, hub);
+            plan.moves(hub, q);
+        }
+        for &q in touching.iter().chain([&safe, &snare]) {
+            plan.moves(hub, q);
+        }
+        return;
+    }
+    let hubs: Vec<u8> = (0..shape.ballast).map(|_| plan.other()).collect();
+    let doors: Vec<u8> = (0..shape.width).map(|_| plan.own()).collect();
+    // a snare two turns before the gadget of the last command
+    let (gate, hold, snare) = (plan.other(), plan.own(), plan.own());
+    plan.any(hold, ends[last]);
+    plan.moves(gate, hold);
+    plan.any(snare, gate);
+    for (i, &door) in doors.iter().enumerate() {
+        plan.any(door, hubs[i % hubs.len()]);
+    }
+    for &hub in &hubs {
+        for &q in doors.iter().chain(touching).chain([&snare]) {
+            plan.moves(hub, q);
+        }
+    }
+}
