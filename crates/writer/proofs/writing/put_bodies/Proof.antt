@@ -1,7 +1,7 @@
 -- `put_bodies` meets its contract, by the laws of WriteLaws.antt. Assumes nothing.
-use Rattle.maker.proofs.WriteLaws.{bodies-bytes}
-use Rattle.maker.proofs.writing.put_bodies.Statement.{statement}
-use Rattle.maker.proofs.writing.put_bodies.Tie as tie
+use Rattle.writer.proofs.WriteLaws.{bodies-bytes}
+use Rattle.writer.proofs.writing.put_bodies.Statement.{statement}
+use Rattle.writer.proofs.writing.put_bodies.Tie as tie
 
 pub put-bodies-spec : {M : Type 1} → statement M
 put-bodies-spec =

@@ -1,7 +1,7 @@
 -- `put_ranks` meets its contract, by the laws of WriteLaws.antt. Assumes nothing.
-use Rattle.maker.proofs.WriteLaws.{rank-bytes}
-use Rattle.maker.proofs.writing.put_ranks.Statement.{statement}
-use Rattle.maker.proofs.writing.put_ranks.Tie as tie
+use Rattle.writer.proofs.WriteLaws.{rank-bytes}
+use Rattle.writer.proofs.writing.put_ranks.Statement.{statement}
+use Rattle.writer.proofs.writing.put_ranks.Tie as tie
 
 pub put-ranks-spec : {M : Type 1} → statement M
 put-ranks-spec =
