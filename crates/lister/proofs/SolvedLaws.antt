@@ -13,6 +13,7 @@ use Rattle.theory.proofs.Answer.{check-accepted, accepted-on}
 use Rattle.theory.proofs.Rounds.{final-length}
 use Rattle.theory.proofs.Region.{length-masks}
 use Rattle.theory.proofs.Monotone.{answer-least}
+use Rattle.sheet.specs.Limits.{mostWords}
 use Rattle.sheet.specs.Checks.{powerTo, nodesOf}
 use Rattle.sheet.specs.Reading.{readAnswer, delayOf}
 use Rattle.sheet.specs.SheetGame.{gameOf}
@@ -27,7 +28,7 @@ use Rattle.theory.specs.Buffer.{over}
 use Rattle.solver.specs.declared.solve.Solution.{Solution}
 use Rattle.solver.specs.declared.solve.Solution.the-variants as solution
 use Rattle.lister.specs.Listing.{wonText, lostText, gameText, solvedText}
-use Rattle.lister.specs.Parts.{flagsIn}
+use Rattle.lister.specs.code.Parts.{flagsIn, wonBy, lostBy}
 use Rattle.theory.proofs.Buffer.{over-first, over-room}
 use Rattle.lister.proofs.Words.{flags-are}
 
@@ -133,7 +134,7 @@ module _ (s : List ℕ) (mb rb : List ℕ) where
         won-masks-room f = rw (won-masks ms f) (masks-room s l (l .delay) read mb n won-nodes)
 
         pub won-text : (p : Page) {q : Page} → ms ≡ masksLeft s solved mb → rs ≡ ranksLeft s solved rb
-            → q ≡ puts p (wonText (l .delay) (l .positions .size) (l .actions) (flagsIn s rs) (take n ms))
+            → q ≡ puts p (wonBy l (flagsIn s rs mostWords) (take n ms))
             → q ≡ puts p (solvedText s solved)
         unfolding solvedText gameText
         won-text p f g h =
@@ -167,7 +168,7 @@ module _ (s : List ℕ) (mb rb : List ℕ) where
         pub lost-ranks-room : n ≤ length rs
         lost-ranks-room = rw (lost-ranks rs f) (ranks-room s l m read rb n lost-nodes)
 
-        pub lost-text : (p : Page) {q : Page} → q ≡ puts p (lostText (l .delay) (l .positions .size) (l .actions) m (take n rs))
+        pub lost-text : (p : Page) {q : Page} → q ≡ puts p (lostBy l m (take n rs))
             → q ≡ puts p (solvedText s solved)
         unfolding solvedText gameText
         lost-text p h =
