@@ -99,8 +99,6 @@ rank-size h ranks = length-sheet 2 (part 83 h ∷ part 82 (shortsText ranks) ∷
 
 pub ruleset table-bytes = (needs, table-is)
 
-pub ruleset rank-bytes = (needs, rank-is)
-
 -- a sheet of c bytes of contents and n of bodies, written only where that fits two bytes; x is what `fit` has answered
 module _ (s : List ℕ) (c n room : ℕ) (x : Bool) (size : length s ≡ c + n) (all : c + room ≡ 65535) (e : x ≡ leb n room) where
   sheet-none : x ≡ false → (p : Page) → p ≡ puts p (writtenSheet 2 s)
