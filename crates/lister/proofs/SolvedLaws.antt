@@ -13,7 +13,7 @@ use Rattle.theory.proofs.Answer.{check-accepted, accepted-on}
 use Rattle.theory.proofs.Rounds.{final-length}
 use Rattle.theory.proofs.Region.{length-masks}
 use Rattle.theory.proofs.Monotone.{answer-least}
-use Rattle.sheet.specs.Limits.{mostWords}
+use Rattle.sheet.specs.Limits.{mostActions, mostWords}
 use Rattle.sheet.specs.Checks.{powerTo, nodesOf}
 use Rattle.sheet.specs.Reading.{readAnswer, delayOf}
 use Rattle.sheet.specs.SheetGame.{gameOf}
@@ -55,7 +55,7 @@ counted : (s : List ℕ) (l : Layout) (m n : ℕ) → readAnswer s ≡ accepted 
     → n ≡ nodesOf (l .positions .size) (l .actions) m
 counted s l m n e h is =
     let r = ranges s (read-is s l e .0) in
-    let few : l .actions ≤ 8 = rw (carries s l e .actions) (r .few-actions) in
+    let few : l .actions ≤ mostActions = rw (carries s l e .actions) (r .few-actions) in
     nodes-small (l .actions) m few (omega (arith, r .short-delay)) (l .positions .size) n is
 
 pub losing-within : (s : List ℕ) (l : Layout) (m : ℕ) → readAnswer s ≡ accepted l → answer (gameOf s) (delayOf s) ≡ losing m → m ≤ delayOf s

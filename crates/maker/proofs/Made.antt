@@ -55,16 +55,16 @@ made-won G d wins t e = (cc, cc)
 made-won G d (losing m) t e = let z : _≡_ {A = ℕ} 0 1 = cc in absurd (omega arith)
 
 -- the parts of an accepted making
-pub record Making (s : List ℕ) (outputRoom : ℕ) (x : Made) : Type 0 where
+pub record MadeParts (s : List ℕ) (outputRoom : ℕ) (x : Made) : Type 0 where
   pub layout : Layout
   pub reads : readAnswer s ≡ accepted layout
   pub made : x ≡ madeOf (gameOf s) (delayOf s) (answer (gameOf s) (delayOf s))
   pub room : outputSize (gameOf s) (delayOf s) ≤ outputRoom
 
 module _ (s : List ℕ) (masksRoom ranksRoom outputRoom : ℕ) where
-  pub making : (x : Made) → makeAnswer s masksRoom ranksRoom outputRoom ≡ accepted x → Making s outputRoom x
+  pub made-parts : (x : Made) → makeAnswer s masksRoom ranksRoom outputRoom ≡ accepted x → MadeParts s outputRoom x
   unfolding makeAnswer solveAnswer
-  making x e =
+  made-parts x e =
       let a = accepted-on _ _ e in
       let b = accepted-on _ _ (a .1) in
       let c = check-accepted _ _ _ (a .2) in
@@ -80,7 +80,7 @@ module _ (s : List ℕ) (masksRoom ranksRoom outputRoom : ℕ) where
 
   pub making-won : (t : List ℕ) → makeAnswer s masksRoom ranksRoom outputRoom ≡ accepted (won t) → Won s t
   making-won t e =
-      let m = making (won t) e in
+      let m = made-parts (won t) e in
       let r = sheet-ranged s (m .layout) (m .reads) in
       let w = made-won (gameOf s) (delayOf s) (answer (gameOf s) (delayOf s)) t (sym (m .made)) in
       let v = wins-winning (gameOf s) (delayOf s) (w .0) in

@@ -5,11 +5,8 @@ use mathlib.Core.List.{List}
 use native.Mathlib.Omega.{arith}
 use lib.ListN.{length, take, length-take}
 use lib.Seq.{length-take-le}
-use borrow.Author.Needs.{needs}
-use Rattle.theory.specs.Answer.{accepted}
 use Rattle.theory.specs.Buffer.{over}
 use Rattle.theory.specs.Game.{Game}
-use Rattle.theory.specs.Strategy.{initialLength}
 use Rattle.theory.specs.Rounds.{masks}
 use Rattle.theory.specs.Delay.{initialWords, arena, flags}
 use Rattle.theory.specs.Table.{ours}
@@ -17,15 +14,15 @@ use Rattle.theory.proofs.Buffer.{over-first, over-room}
 use Rattle.theory.proofs.Region.{length-masks}
 use Rattle.theory.proofs.OurTable.{ours-fits}
 use Rattle.sheet.specs.Limits.{mostNodes, mostWords}
-use Rattle.sheet.specs.Reading.{readAnswer, delayOf}
+use Rattle.sheet.specs.Reading.{delayOf}
 use Rattle.sheet.specs.SheetGame.{gameOf}
 use Rattle.sheet.specs.declared.reading.Layout.{Layout}
-use Rattle.sheet.proofs.Accepted.{read-is, ranges}
-use Rattle.sheet.proofs.SizeLaws.{power-bound, small-sizes}
+use Rattle.sheet.proofs.SizeLaws.{small-sizes}
 use Rattle.text.specs.Page.{Page, puts}
 use Rattle.solver.specs.Flags.{flagsCount, flagsAfter}
 use Rattle.solver.proofs.FlagLaws.{words-counted, flags-theory}
-use Rattle.writer.specs.SheetBytes.{headerOf, tableBytes, tableSheet, rankBytes, writtenSheet}
+use Rattle.writer.specs.SheetBytes.{tableBytes, tableSheet, rankBytes, writtenSheet}
+use Rattle.writer.proofs.Readable.{few-words}
 use Rattle.writer.proofs.WriteLaws.{written-whole, rank-size}
 use Rattle.maker.specs.Making.{tableSheetOf}
 use Rattle.maker.specs.code.Checked.{Small, nodesAt, headerBytes, HasTable}
@@ -82,15 +79,9 @@ module _ (s : List ℕ) (l : Layout) (M R : List ℕ) (has : HasTable s l M R) w
   pub masks-inside : (n : ℕ) → n ≡ nodesAt l (l .delay) → n ≡ length (take n M)
   masks-inside n e = asked n e ∙ sym (length-masks (arena G d)) ∙ ap length (sym (front-masks n e))
 
-  few-words : initialWords G d ≤ mostWords
-  unfolding initialWords gameOf
-  few-words =
-      let r = ranges s (read-is s l (has .reads) .0) in
-      power-bound (gameOf s .actions) (initialLength (delayOf s)) (r .few-actions) (omega (arith, r .short-delay))
-
   module _ (w : ℕ) (B F : List ℕ) (room : mostWords ≤ length B) (ew : w ≡ flagsCount s (length B)) (ef : F ≡ flagsAfter s R B) where
     all-words : initialWords G d ≤ length B
-    all-words = omega (arith, few-words)
+    all-words = omega (arith, few-words G d (sheet-ranged s l (has .reads)))
 
     flags-over : F ≡ over (flags G d) B
     flags-over = ef ∙ flags-theory s R B l (has .reads) all-words (has .ranks)

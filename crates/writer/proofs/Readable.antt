@@ -31,6 +31,10 @@ pub record Ranged (G : Game) (d : ℕ) : Type 0 where
   pub short-delay : d ≤ mostDelay
   pub few-nodes : arena G d .nodes ≤ mostNodes
 
+pub few-words : (G : Game) (d : ℕ) → Ranged G d → initialWords G d ≤ mostWords
+unfolding initialWords
+few-words G d ranged = power-bound (G .actions) (initialLength d) (ranged .few-actions) (omega (arith, ranged .short-delay))
+
 module _ (G : Game) (d : ℕ) (T : Table) (fits : Fits G d T) where
   abbrev parts : List Part
   parts = part 83 (headerOf G d) ∷ part 87 (T .flags) ∷ part 84 (T .masks) ∷ []
@@ -45,15 +49,11 @@ module _ (G : Game) (d : ℕ) (T : Table) (fits : Fits G d T) where
   table-length = length-sheet width parts ∙ parts-size
 
   module _ (ranged : Ranged G d) where
-    few-words : initialWords G d ≤ mostWords
-    unfolding initialWords
-    few-words = power-bound (G .actions) (initialLength d) (ranged .few-actions) (omega (arith, ranged .short-delay))
-
     pub table-short : length (tableSheet G d T) < 256 ^ width
-    table-short = rw table-length (omega (arith, few-words, ranged .few-nodes))
+    table-short = rw table-length (omega (arith, few-words G d ranged, ranged .few-nodes))
 
     parts-fit : entrySize width * 3 + before parts 3 < 256 ^ width
-    parts-fit = rw parts-size (omega (arith, few-words, ranged .few-nodes))
+    parts-fit = rw parts-size (omega (arith, few-words G d ranged, ranged .few-nodes))
 
     contents : contentsOk width tableLetters (tableSheet G d T) ≡ true
     unfolding tableSheet tableBytes
