@@ -27,7 +27,7 @@ use Rattle.text.proofs.Page.{written}
 use Rattle.solver.specs.Solving.{solveAnswer, solvedDelay, masksLeft, ranksLeft, solutionMeans}
 use Rattle.solver.specs.declared.solve.Solution.{Solution}
 use Rattle.solver.specs.declared.solve.Solution.the-variants as solution
-use Rattle.writer.specs.SheetBytes.{headerOf, rankBytes, rankSheet}
+use Rattle.writer.specs.SheetBytes.{rankBytes, rankSheet}
 use Rattle.writer.proofs.Readable.{Ranged}
 use Rattle.maker.specs.Making.{tableSheetOf, rankSheetOf, Made, won, lost, madeOf, makeAnswer, outputAfter, measureOf, measured}
 use Rattle.maker.specs.code.Checked.{Small, nodesAt, headerBytes, Ready, HasTable}

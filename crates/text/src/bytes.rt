@@ -1,7 +1,6 @@
 // Bytes, slices of bytes and numbers of two bytes.
 use sheet::form::low_byte;
 use sheet::form::wide16;
-ghost use mathlib.Core.Path.{_≡_};
 ghost use mathlib.Core.List.{_∷_, []};
 ghost use Prim.Native.Nat.{_<_};
 ghost use lib.ListN.{length};

@@ -7,7 +7,6 @@ use super::digits::put_word;
 use super::digits::without_last;
 use sheet::form::wide;
 use sheet::form::wide16;
-ghost use mathlib.Core.Path.{_≡_};
 ghost use Prim.Native.Nat.{_<_};
 ghost use lib.ListN.{length};
 ghost use Rattle.text.specs.Page.{Writes};
