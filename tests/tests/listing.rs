@@ -37,6 +37,34 @@ fn list(input: &[u8]) -> String {
     list_in_pieces(input, 1 << 16, Duration::ZERO)
 }
 
+/// tests/listing: for each NAME.sheet the program prints NAME.txt, byte for byte.
+#[test]
+fn stored() {
+    let folder = PathBuf::from(env!("CARGO_MANIFEST_DIR")).join("listing");
+    let mut cases = 0;
+    for entry in std::fs::read_dir(folder).unwrap() {
+        let path = entry.unwrap().path();
+        let (sheet, text) = (path.with_extension("sheet"), path.with_extension("txt"));
+        assert!(path == sheet || path == text, "{} is no part of a case", path.display());
+        assert!(sheet.exists() && text.exists(), "{} stands alone", path.display());
+        if path == sheet {
+            let printed = list(&std::fs::read(&sheet).unwrap());
+            assert!(printed.as_bytes() == std::fs::read(&text).unwrap(), "{}: {printed}", sheet.display());
+            cases += 1;
+        }
+    }
+    assert!(cases > 0);
+    println!("stored listings: {cases}");
+}
+
+/// The program has no exit status: that its output could not be written is told on standard error.
+#[test]
+fn full_device() {
+    let full = std::fs::OpenOptions::new().write(true).open("/dev/full").unwrap();
+    let run = Command::new(program()).stdin(Stdio::null()).stdout(full).output().unwrap();
+    assert_eq!(run.stderr, b"listing: the lines could not be written\n");
+}
+
 #[test]
 fn document_01() {
     let expected = "lag 1 positions 4 commands 2\nlosing 1\npair 2 - rank 2\npair 3 - rank 1\n";

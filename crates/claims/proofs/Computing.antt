@@ -3,7 +3,9 @@ use mathlib.Core.Bool.{Bool, true}
 use Rattle.sheet.proofs.Computing.{sheet-computes}
 use Rattle.controller.specs.Accuracy.{callStep, Truthful}
 use Rattle.solver.specs.Solving.{solveAnswer}
-use Rattle.maker.specs.Making.{headerOf, tableBytes, tableSheetOf, rankSheetOf, madeOf, outputSize, makeAnswer}
+use Rattle.theory.specs.Table.{ours}
+use Rattle.writer.specs.SheetBytes.{headerOf, tableBytes, tableSheet, rankSheet}
+use Rattle.maker.specs.Making.{tableSheetOf, rankSheetOf, madeOf, outputSize, makeAnswer}
 use Rattle.table.specs.TableSheet.{tableLayout, decode, tableNodes, numbersOk, belowAt, bytesBelow, bodiesOk, shapeAnswer, someFlagged, tableAnswer}
 use Rattle.state.specs.State.{slotAt, agrees, heldAt, withinAt, heldOk, windowOk, stateOk, pushed, shiftedAt, shifted}
 use Rattle.controller.specs.Controller.{observeWith, wordOf, obey, nextAction, reported, actWith, openAnswer, observeAnswer, actAnswer}
@@ -13,7 +15,7 @@ unfolding solveAnswer
 solving-computes = true
 
 unfoldable pub making-computes : Bool
-unfolding headerOf tableBytes tableSheetOf rankSheetOf madeOf outputSize makeAnswer
+unfolding ours headerOf tableBytes tableSheet rankSheet tableSheetOf rankSheetOf madeOf outputSize makeAnswer
 making-computes = true
 
 unfoldable pub table-sheets-compute : Bool

@@ -16,36 +16,36 @@ use Rattle.text.specs.Page.{Page, page, puts}
 use Rattle.text.specs.Lines.{refusedLine}
 use Rattle.text.proofs.Page.{place-within}
 use Rattle.solver.specs.Solving.{solveAnswer, masksLeft, ranksLeft}
-use Rattle.lister.specs.Listing.{solvedText, textWith, masksWith, ranksWith}
+use Rattle.lister.specs.Listing.{mostInput, solvedText, textWith, masksWith, ranksWith}
 use Rattle.lister.proofs.SolvedLaws.{part-count}
 
 -- input that is too long
-module _ (s : List ℕ) (h : 16384 < length s) where
+module _ (s : List ℕ) (h : mostInput < length s) where
   pub long-text : (m n : ℕ) (p : Page) {q : Page} → q ≡ puts p (refusedLine 1) → q ≡ puts p (textWith s m n)
   unfolding textWith
-  long-text m n p e = rw (lt-ltb 16384 (length s) h) e
+  long-text m n p e = rw (lt-ltb mostInput (length s) h) e
 
   pub long-masks : (n : ℕ) (b : List ℕ) → b ≡ masksWith s n b
   unfolding masksWith
-  long-masks n b = rw (lt-ltb 16384 (length s) h)
+  long-masks n b = rw (lt-ltb mostInput (length s) h)
 
   pub long-ranks : (n : ℕ) (b : List ℕ) → b ≡ ranksWith s n b
   unfolding ranksWith
-  long-ranks n b = rw (lt-ltb 16384 (length s) h)
+  long-ranks n b = rw (lt-ltb mostInput (length s) h)
 
 -- other input is what solving says of it
-module _ (s : List ℕ) (h : length s ≤ 16384) where
+module _ (s : List ℕ) (h : length s ≤ mostInput) where
   pub solved-text : (m n : ℕ) (p : Page) {q : Page} → q ≡ puts p (solvedText s (solveAnswer s m n)) → q ≡ puts p (textWith s m n)
   unfolding textWith
-  solved-text m n p e = rw (le-ltb 16384 (length s) h) e
+  solved-text m n p e = rw (le-ltb mostInput (length s) h) e
 
   pub solved-masks : (n : ℕ) (b : List ℕ) {ms : List ℕ} → ms ≡ masksLeft s (solveAnswer s (length b) n) b → ms ≡ masksWith s n b
   unfolding masksWith
-  solved-masks n b e = rw (le-ltb 16384 (length s) h) e
+  solved-masks n b e = rw (le-ltb mostInput (length s) h) e
 
   pub solved-ranks : (n : ℕ) (b : List ℕ) {rs : List ℕ} → rs ≡ ranksLeft s (solveAnswer s n (length b)) b → rs ≡ ranksWith s n b
   unfolding ranksWith
-  solved-ranks n b e = rw (le-ltb 16384 (length s) h) e
+  solved-ranks n b e = rw (le-ltb mostInput (length s) h) e
 
 -- a reading r that was refused is what solving refuses
 module _ (s : List ℕ) (r : Reading) (told : readingMeans r ≡ readAnswer s) (why : Refusal) (k : ℕ) (e : r ≡ Refused why) (f : k ≡ refusalNumber r) where
@@ -53,7 +53,7 @@ module _ (s : List ℕ) (r : Reading) (told : readingMeans r ≡ readAnswer s) (
   unfolding solveAnswer onAccepted
   refused-solved m n = rw (read-refused s r told why k e f)
 
-  module _ (h : length s ≤ 16384) where
+  module _ (h : length s ≤ mostInput) where
     pub refused-text : (m n : ℕ) (p : Page) {q : Page} {x : ℕ} → x ≡ k → q ≡ puts p (refusedLine x) → q ≡ puts p (textWith s m n)
     unfolding solvedText
     refused-text m n p g i = solved-text s h m n p (rw (refused-solved m n, ← g) i)

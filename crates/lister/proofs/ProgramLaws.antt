@@ -18,6 +18,7 @@ use Rattle.theory.proofs.Fold.{bool, both-true}
 use Rattle.theory.proofs.Answer.{check-passed}
 use Rattle.theory.proofs.Rounds.{final-length, final-le}
 use Rattle.theory.proofs.Region.{length-masks}
+use Rattle.sheet.specs.Limits.{mostPositions, mostActions, mostDelay, mostNodes, mostWords}
 use Rattle.sheet.specs.Reading.{readAnswer, delayOf}
 use Rattle.sheet.specs.SheetGame.{gameOf}
 use Rattle.sheet.specs.declared.reading.Layout.{Layout}
@@ -28,18 +29,18 @@ use Rattle.text.proofs.Lines.{length-winning}
 use Rattle.text.proofs.Sizes.{refused-size, losing-size, head-size, starts-size, allows-size, ranks-size}
 use Rattle.solver.specs.Solving.{solveAnswer}
 use Rattle.theory.specs.Buffer.{over}
-use Rattle.lister.specs.Listing.{wonText, lostText, gameText, readText, listingOf, programText, solvedText, textWith}
+use Rattle.lister.specs.Listing.{mostInput, wonText, lostText, gameText, readText, listingOf, programText, solvedText, textWith}
 use Rattle.lister.proofs.SolvedLaws.{losing-within}
 use Rattle.lister.proofs.Words.{few-words, flags-length}
 
 -- the buffers suffice
 
-module _ (s : List ℕ) (m n : ℕ) (masks-room : 16384 ≤ m) (ranks-room : 16384 ≤ n) where
+module _ (s : List ℕ) (m n : ℕ) (masks-room : mostNodes ≤ m) (ranks-room : mostNodes ≤ n) where
   solved-read : (a : Answer Layout) → readAnswer s ≡ a → solvedText s (solveAnswer s m n) ≡ readText s a
   unfolding solveAnswer onAccepted solvedText readText
   solved-read (refused k) e = rw e
   solved-read (accepted l) e =
-      let few : arena (gameOf s) (delayOf s) .nodes ≤ 16384 = rw (arena-nodes s (delayOf s)) (ranges s (read-is s l e .0) .few-nodes) in
+      let few : arena (gameOf s) (delayOf s) .nodes ≤ mostNodes = rw (arena-nodes s (delayOf s)) (ranges s (read-is s l e .0) .few-nodes) in
       let room = both-true _ _ (le-leb (arena (gameOf s) (delayOf s) .nodes) m (omega arith)) (le-leb (arena (gameOf s) (delayOf s) .nodes) n (omega arith)) in
       rw (e, check-passed _ 8 _ room)
 
@@ -69,8 +70,11 @@ small-refusal s =
 
 -- the sizes of an accepted sheet's text
 
-won-size : (d p a : ℕ) (fs ms : List ℕ) → d ≤ 6 → p ≤ 256 → 0 < a → a ≤ 8 → length fs ≤ 512 → length ms ≤ 256 * a ^ (d / 2)
-    → length ms ≤ 16384 → length (wonText d p a fs ms) ≤ 463911
+abbrev pub largestText : ℕ
+largestText = 463911
+
+won-size : (d p a : ℕ) (fs ms : List ℕ) → d ≤ mostDelay → p ≤ mostPositions → 0 < a → a ≤ mostActions → length fs ≤ mostWords → length ms ≤ mostPositions * a ^ (d / 2)
+    → length ms ≤ mostNodes → length (wonText d p a fs ms) ≤ largestText
 unfolding wonText
 won-size d p a fs ms f g h i j k l =
     let head = head-size d p a (omega arith) g (omega arith) in
@@ -78,8 +82,8 @@ won-size d p a fs ms f g h i j k l =
     let allows = allows-size a (d / 2) ms h (omega arith) k l i in
     simp length-append (omega (arith, length-winning, head, starts, allows))
 
-lost-size : (d p a m : ℕ) (rs : List ℕ) → d ≤ 6 → p ≤ 256 → 0 < a → a ≤ 8 → m ≤ 6 → length rs ≤ 256 * a ^ (m / 2)
-    → length rs ≤ 16384 → ((k : ℕ) → k < length rs → getD rs k 0 < 65536) → length (lostText d p a m rs) ≤ 463911
+lost-size : (d p a m : ℕ) (rs : List ℕ) → d ≤ mostDelay → p ≤ mostPositions → 0 < a → a ≤ mostActions → m ≤ mostDelay → length rs ≤ mostPositions * a ^ (m / 2)
+    → length rs ≤ mostNodes → ((k : ℕ) → k < length rs → getD rs k 0 < 65536) → length (lostText d p a m rs) ≤ largestText
 unfolding lostText
 lost-size d p a m rs f g h i j k l b =
     let head = head-size d p a (omega arith) g (omega arith) in
@@ -91,7 +95,7 @@ module _ (s : List ℕ) (l : Layout) (e : readAnswer s ≡ accepted l) where
   r : Ranges s
   r = ranges s (read-is s l e .0)
 
-  few-positions : gameOf s .positions ≤ 256
+  few-positions : gameOf s .positions ≤ mostPositions
   unfolding gameOf
   few-positions = r .few-positions
 
@@ -99,11 +103,11 @@ module _ (s : List ℕ) (l : Layout) (e : readAnswer s ≡ accepted l) where
   unfolding gameOf
   some-action = r .some-action
 
-  few-actions : gameOf s .actions ≤ 8
+  few-actions : gameOf s .actions ≤ mostActions
   unfolding gameOf
   few-actions = r .few-actions
 
-  nodes-words : (m : ℕ) → arena (gameOf s) m .nodes ≤ 256 * gameOf s .actions ^ (m / 2)
+  nodes-words : (m : ℕ) → arena (gameOf s) m .nodes ≤ mostPositions * gameOf s .actions ^ (m / 2)
   unfolding arena words
   nodes-words m = mul-le-mul-right (gameOf s .actions ^ (m / 2)) few-positions
 
@@ -111,12 +115,12 @@ module _ (s : List ℕ) (l : Layout) (e : readAnswer s ≡ accepted l) where
   unfolding arena words
   nodes-fewer m h = mul-le-mul-left (gameOf s .positions) (pow-le-pow-right some-action (omega arith))
 
-  few-nodes : (m : ℕ) → m ≤ delayOf s → arena (gameOf s) m .nodes ≤ 16384
+  few-nodes : (m : ℕ) → m ≤ delayOf s → arena (gameOf s) m .nodes ≤ mostNodes
   few-nodes m h =
-      let asked : arena (gameOf s) (delayOf s) .nodes ≤ 16384 = rw (arena-nodes s (delayOf s)) (r .few-nodes) in
+      let asked : arena (gameOf s) (delayOf s) .nodes ≤ mostNodes = rw (arena-nodes s (delayOf s)) (r .few-nodes) in
       le-trans (nodes-fewer m h) asked
 
-  game-size : (v : Verdict) → answer (gameOf s) (delayOf s) ≡ v → length (gameText (gameOf s) (delayOf s) v) ≤ 463911
+  game-size : (v : Verdict) → answer (gameOf s) (delayOf s) ≡ v → length (gameText (gameOf s) (delayOf s) v) ≤ largestText
   unfolding gameText
   game-size wins q =
       won-size (delayOf s) (gameOf s .positions) (gameOf s .actions) (flags (gameOf s) (delayOf s)) (masks (arena (gameOf s) (delayOf s)))
@@ -125,33 +129,33 @@ module _ (s : List ℕ) (l : Layout) (e : readAnswer s ≡ accepted l) where
       (rw (length-masks (arena (gameOf s) (delayOf s))) (few-nodes (delayOf s) (omega arith)))
   game-size (losing m) q =
       let h : m ≤ delayOf s = losing-within s l m e q in
-      let few : arena (gameOf s) m .nodes ≤ 16384 = few-nodes m h in
+      let few : arena (gameOf s) m .nodes ≤ mostNodes = few-nodes m h in
       lost-size (delayOf s) (gameOf s .positions) (gameOf s .actions) m (finalRanks (arena (gameOf s) m))
       (r .short-delay) few-positions some-action few-actions (omega (arith, r .short-delay))
       (rw (final-length (arena (gameOf s) m)) (nodes-words m))
       (rw (final-length (arena (gameOf s) m)) few)
       (λ k g. omega (arith, final-le (arena (gameOf s) m) k))
 
-read-size : (s : List ℕ) (a : Answer Layout) → readAnswer s ≡ a → SmallRefusal a → length (readText s a) ≤ 463911
+read-size : (s : List ℕ) (a : Answer Layout) → readAnswer s ≡ a → SmallRefusal a → length (readText s a) ≤ largestText
 unfolding readText
 read-size s (refused n) e h = omega (arith, refused-size n h)
 read-size s (accepted l) e h = game-size s l e (answer (gameOf s) (delayOf s)) refl
 
 -- the largest text
-pub fits : (s : List ℕ) → length (programText s) ≤ 463911
+pub fits : (s : List ℕ) → length (programText s) ≤ largestText
 unfolding programText listingOf
 fits s =
     ⊎-elim
-    (λ (t : ltb 16384 (length s) ≡ true). rw t (omega (arith, refused-size 1 (omega arith))))
-    (λ (f : ltb 16384 (length s) ≡ false). rw f (read-size s (readAnswer s) refl (small-refusal s)))
-    (bool (ltb 16384 (length s)))
+    (λ (t : ltb mostInput (length s) ≡ true). rw t (omega (arith, refused-size 1 (omega arith))))
+    (λ (f : ltb mostInput (length s) ≡ false). rw f (read-size s (readAnswer s) refl (small-refusal s)))
+    (bool (ltb mostInput (length s)))
 
 -- so the program's buffer holds it whole
 
-module _ (s out out′ : List ℕ) (r : ℕ) (room : 464000 ≤ length out) (e : page out′ r ≡ puts (page out 0) (textWith s 16384 16384)) where
+module _ (s out out′ : List ℕ) (r : ℕ) (room : 464000 ≤ length out) (e : page out′ r ≡ puts (page out 0) (textWith s mostNodes mostNodes)) where
   whole : page out′ r ≡ page (over (programText s) out) (length (programText s))
   unfolding over
-  whole = e ∙ ap (puts (page out 0)) (enough s 16384 16384 (omega arith) (omega arith)) ∙ written (programText s) out (omega (arith, fits s))
+  whole = e ∙ ap (puts (page out 0)) (enough s mostNodes mostNodes (omega arith) (omega arith)) ∙ written (programText s) out (omega (arith, fits s))
 
   pub whole-size : r ≡ length (programText s)
   whole-size = ap (λ (p : Page). p .at) whole

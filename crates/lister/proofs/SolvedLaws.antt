@@ -13,6 +13,7 @@ use Rattle.theory.proofs.Answer.{check-accepted, accepted-on}
 use Rattle.theory.proofs.Rounds.{final-length}
 use Rattle.theory.proofs.Region.{length-masks}
 use Rattle.theory.proofs.Monotone.{answer-least}
+use Rattle.sheet.specs.Limits.{mostActions, mostWords}
 use Rattle.sheet.specs.Checks.{nodesOf}
 use Rattle.sheet.specs.code.Steps.{powerTo}
 use Rattle.sheet.specs.Reading.{readAnswer, delayOf}
@@ -28,7 +29,7 @@ use Rattle.theory.specs.Buffer.{over}
 use Rattle.solver.specs.declared.solve.Solution.{Solution}
 use Rattle.solver.specs.declared.solve.Solution.the-variants as solution
 use Rattle.lister.specs.Listing.{wonText, lostText, gameText, solvedText}
-use Rattle.lister.specs.Parts.{flagsIn}
+use Rattle.lister.specs.code.Parts.{flagsIn, wonBy, lostBy}
 use Rattle.theory.proofs.Buffer.{over-first, over-room}
 use Rattle.lister.proofs.Words.{flags-are}
 
@@ -55,7 +56,7 @@ counted : (s : List ℕ) (l : Layout) (m n : ℕ) → readAnswer s ≡ accepted 
     → n ≡ nodesOf (l .positions .size) (l .actions) m
 counted s l m n e h is =
     let r = ranges s (read-is s l e .0) in
-    let few : l .actions ≤ 8 = rw (carries s l e .actions) (r .few-actions) in
+    let few : l .actions ≤ mostActions = rw (carries s l e .actions) (r .few-actions) in
     nodes-small (l .actions) m few (omega (arith, r .short-delay)) (l .positions .size) n is
 
 pub losing-within : (s : List ℕ) (l : Layout) (m : ℕ) → readAnswer s ≡ accepted l → answer (gameOf s) (delayOf s) ≡ losing m → m ≤ delayOf s
@@ -134,7 +135,7 @@ module _ (s : List ℕ) (mb rb : List ℕ) where
         won-masks-room f = rw (won-masks ms f) (masks-room s l (l .delay) read mb n won-nodes)
 
         pub won-text : (p : Page) {q : Page} → ms ≡ masksLeft s solved mb → rs ≡ ranksLeft s solved rb
-            → q ≡ puts p (wonText (l .delay) (l .positions .size) (l .actions) (flagsIn s rs) (take n ms))
+            → q ≡ puts p (wonBy l (flagsIn s rs mostWords) (take n ms))
             → q ≡ puts p (solvedText s solved)
         unfolding solvedText gameText
         won-text p f g h =
@@ -168,7 +169,7 @@ module _ (s : List ℕ) (mb rb : List ℕ) where
         pub lost-ranks-room : n ≤ length rs
         lost-ranks-room = rw (lost-ranks rs f) (ranks-room s l m read rb n lost-nodes)
 
-        pub lost-text : (p : Page) {q : Page} → q ≡ puts p (lostText (l .delay) (l .positions .size) (l .actions) m (take n rs))
+        pub lost-text : (p : Page) {q : Page} → q ≡ puts p (lostBy l m (take n rs))
             → q ≡ puts p (solvedText s solved)
         unfolding solvedText gameText
         lost-text p h =

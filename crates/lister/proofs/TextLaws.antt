@@ -1,23 +1,13 @@
 -- The text of a game from its parts, as the code of src/lib.rt writes them. Assumes nothing.
-use Prim.Native.Nat.{ℕ, _+_, _/_}
+use Prim.Native.Nat.{ℕ, _/_}
 use mathlib.Core.Path.{_≡_}
 use mathlib.Core.List.{List}
-use lib.ListN.{take}
 use borrow.Author.Needs.{needs}
 use Rattle.theory.specs.Strategy.{initialLength}
 use Rattle.text.specs.Page.{Page, puts}
 use Rattle.text.specs.Lines.{headLine, winningLine, losingLine, startLines, allowLines, rankLines}
 use Rattle.text.proofs.Page.{after}
-use Rattle.solver.specs.code.Flags.{flagsCount, flagsAfter}
 use Rattle.lister.specs.Listing.{wonText, lostText}
-use Rattle.lister.specs.Parts.{blank, flagsIn}
-
--- the lines of good first words
-pub words-are : (a d n : ℕ) (s ranks fs : List ℕ) (p : Page) {q : Page} {x y : ℕ} → x ≡ a → y ≡ d → n ≡ flagsCount s 512
-    → fs ≡ flagsAfter s ranks blank → q ≡ puts p (startLines x ((y + 1) / 2) (take n fs))
-    → q ≡ puts p (startLines a (initialLength d) (flagsIn s ranks))
-unfolding flagsIn
-words-are a d n s ranks fs p e f g h z = rw (e, f, g, h) at z
 
 -- x and y are the delay and the actions as the code widens them
 pub won-is : (d n a : ℕ) (fs ms : List ℕ) (p : Page) {q r t u : Page} {x y : ℕ} → x ≡ d → y ≡ a → q ≡ puts p (headLine x n y)
@@ -38,4 +28,4 @@ lost-is d n a m rs p {q} {r} {t} e f g h i j =
     let ranks : t ≡ puts r (rankLines a (m / 2) rs) = rw (f, g) at j in
     after p _ _ head (after q _ _ line ranks)
 
-pub ruleset parts = (needs, words-are, won-is, lost-is)
+pub ruleset parts = (needs, won-is, lost-is)

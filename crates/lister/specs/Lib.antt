@@ -1,3 +1,3 @@
 -- What the listing program prints. Each file says what it defines.
 pub mod Listing
-pub mod Parts
+pub mod code

@@ -1,6 +1,7 @@
-// The listing program, from the bytes of its input to the lines that document 01 prints.
+// The listing, from the bytes of a sheet to the lines that document 01 prints.
 use sheet::form::wide;
 use sheet::limits::MOST_NODES;
+use sheet::limits::MOST_WORDS;
 use sheet::reading::Layout;
 use sheet::reading::Reading;
 use sheet::reading::read;
@@ -19,30 +20,34 @@ use text::listing::put_winning;
 ghost use mathlib.Core.Path.{_≡_};
 ghost use lib.ListN.{length};
 ghost use Rattle.theory.specs.Answer.{accepted};
-ghost use Rattle.theory.specs.Strategy.{initialLength};
+ghost use Rattle.sheet.specs.Limits.{mostWords};
 ghost use Rattle.sheet.specs.Reading.{readAnswer};
 ghost use Rattle.text.specs.Page.{Writes};
-ghost use Rattle.text.specs.Lines.{startLines};
 ghost use Rattle.solver.specs.Solving.{solving, masksSolved, ranksSolved};
 ghost use Rattle.theory.specs.Buffer.{over};
 ghost use Rattle.io.specs.Counts.{Counts};
-ghost use Rattle.lister.specs.Listing.{wonText, lostText, programText, solvedText, textWith, masksWith, ranksWith};
-ghost use Rattle.lister.specs.Parts.{flagsIn};
+ghost use Rattle.lister.specs.Listing.{programText, solvedText, textWith, masksWith, ranksWith};
+ghost use Rattle.lister.specs.code.Parts.{flagsIn, startsBy, wonBy, lostBy};
 
-const MOST_INPUT: usize = 16384;
-
-// First words: 8 actions, 3 in a word.
-const MOST_WORDS: usize = 512;
+// The bytes of the longest sheet that the program takes.
+pub const MOST_INPUT: usize = 16384;
 
 // The largest text has 463,911 bytes (proofs/ProgramLaws.antt, fits).
-const MOST_TEXT: usize = 464000;
+pub const MOST_TEXT: usize = 464000;
 
-// A line for each good first word, by the ranks at the asked delay.
-fn put_words(out: &mut [u8], at: usize, sheet: &[u8], l: Layout, ranks: &[u16]) -> usize
-    ensures { λ r. ⌜ Writes (now (out .entry)) at (startLines (l .actions) (initialLength (l .delay)) (flagsIn (now (sheet .entry)) (now (ranks .entry)))) (now (out .exit)) r ⌝ }
+// A line for each good first word by the ranks at the asked delay, with a lent buffer for the flags.
+fn put_flagged(
+    out: &mut [u8],
+    at: usize,
+    sheet: &[u8],
+    l: Layout,
+    ranks: &[u16],
+    flags: &mut [u8],
+) -> usize
+    ensures { λ r. ⌜ Writes (now (out .entry)) at
+        (startsBy l (flagsIn (now (sheet .entry)) (now (ranks .entry)) (length (now (flags .entry))))) (now (out .exit)) r ⌝ }
 {
-    let mut flags = [0u8; MOST_WORDS];
-    let n = initial_flags(sheet, ranks, &mut flags);
+    let n = initial_flags(sheet, ranks, flags);
     put_starts(
         out,
         at,
@@ -52,8 +57,18 @@ fn put_words(out: &mut [u8], at: usize, sheet: &[u8], l: Layout, ranks: &[u16]) 
     )
 }
 
+// The same with a buffer of its own. Nothing else is done beside the array: with it in scope a search for a proof breaks off.
+fn put_words(out: &mut [u8], at: usize, sheet: &[u8], l: Layout, ranks: &[u16]) -> usize
+    ensures { λ r. ⌜ Writes (now (out .entry)) at (startsBy l (flagsIn (now (sheet .entry)) (now (ranks .entry)) mostWords))
+        (now (out .exit)) r ⌝ }
+{
+    let mut flags = [0u8; MOST_WORDS];
+    put_flagged(out, at, sheet, l, ranks, &mut flags)
+}
+
 fn put_won(out: &mut [u8], sheet: &[u8], l: Layout, masks: &[u8], ranks: &[u16]) -> usize
-    ensures { λ r. ⌜ Writes (now (out .entry)) 0 (wonText (l .delay) (l .positions .size) (l .actions) (flagsIn (now (sheet .entry)) (now (ranks .entry))) (now (masks .entry))) (now (out .exit)) r ⌝ }
+    ensures { λ r. ⌜ Writes (now (out .entry)) 0
+        (wonBy l (flagsIn (now (sheet .entry)) (now (ranks .entry)) mostWords) (now (masks .entry))) (now (out .exit)) r ⌝ }
 {
     let delay = wide(l.delay);
     let actions = wide(l.actions);
@@ -64,7 +79,7 @@ fn put_won(out: &mut [u8], sheet: &[u8], l: Layout, masks: &[u8], ranks: &[u16])
 }
 
 fn put_lost(out: &mut [u8], l: Layout, m: u8, ranks: &[u16]) -> usize
-    ensures { λ r. ⌜ Writes (now (out .entry)) 0 (lostText (l .delay) (l .positions .size) (l .actions) m (now (ranks .entry))) (now (out .exit)) r ⌝ }
+    ensures { λ r. ⌜ Writes (now (out .entry)) 0 (lostBy l m (now (ranks .entry))) (now (out .exit)) r ⌝ }
 {
     let actions = wide(l.actions);
     let delay = wide(m);
@@ -76,7 +91,8 @@ fn put_lost(out: &mut [u8], l: Layout, m: u8, ranks: &[u16]) -> usize
 // The text of a sheet with this reading.
 fn put_game(out: &mut [u8], sheet: &[u8], l: Layout, masks: &mut [u8], ranks: &mut [u16]) -> usize
     requires { ⌜ readAnswer (now sheet) ≡ accepted l ⌝ }
-    ensures text { λ r. ⌜ Writes (now (out .entry)) 0 (solvedText (now (sheet .entry)) (solving (now (sheet .entry)) (now (masks .entry)) (now (ranks .entry)))) (now (out .exit)) r ⌝ }
+    ensures text { λ r. ⌜ Writes (now (out .entry)) 0
+        (solvedText (now (sheet .entry)) (solving (now (sheet .entry)) (now (masks .entry)) (now (ranks .entry)))) (now (out .exit)) r ⌝ }
     ensures masks { λ r. ⌜ now (masks .exit) ≡ masksSolved (now (sheet .entry)) (now (masks .entry)) (now (ranks .entry)) ⌝ }
     ensures ranks { λ r. ⌜ now (ranks .exit) ≡ ranksSolved (now (sheet .entry)) (now (masks .entry)) (now (ranks .entry)) ⌝ }
 {
@@ -97,7 +113,8 @@ fn put_game(out: &mut [u8], sheet: &[u8], l: Layout, masks: &mut [u8], ranks: &m
 
 // What the program prints for a sheet, with lent buffers of any size: what `out` has no room for is left out.
 pub fn list(sheet: &[u8], masks: &mut [u8], ranks: &mut [u16], out: &mut [u8]) -> usize
-    ensures text { λ r. ⌜ Writes (now (out .entry)) 0 (textWith (now (sheet .entry)) (length (now (masks .entry))) (length (now (ranks .entry)))) (now (out .exit)) r ⌝ }
+    ensures text { λ r. ⌜ Writes (now (out .entry)) 0
+        (textWith (now (sheet .entry)) (length (now (masks .entry))) (length (now (ranks .entry)))) (now (out .exit)) r ⌝ }
     ensures counts { λ r. ⌜ Counts r (now (out .exit)) ⌝ }
     ensures masks { λ r. ⌜ now (masks .exit) ≡ masksWith (now (sheet .entry)) (length (now (ranks .entry))) (now (masks .entry)) ⌝ }
     ensures ranks { λ r. ⌜ now (ranks .exit) ≡ ranksWith (now (sheet .entry)) (length (now (masks .entry))) (now (ranks .entry)) ⌝ }
@@ -121,13 +138,4 @@ pub fn list_into(sheet: &[u8], out: &mut [u8; MOST_TEXT]) -> usize
     let mut masks = [0u8; MOST_NODES];
     let mut ranks = [0u16; MOST_NODES];
     list(sheet, &mut masks, &mut ranks, out)
-}
-
-// The program: one byte more than is allowed is read, so that input that is too long is seen to be.
-pub fn run() {
-    let mut sheet = [0u8; MOST_INPUT + 1];
-    let n = io::read_full(0, &mut sheet);
-    let mut out = [0u8; MOST_TEXT];
-    let size = list_into(&sheet[..n], &mut out);
-    io::write_all(1, &out[..size]);
 }

@@ -1,6 +1,8 @@
 -- The theorems over specs/, and laws of them on which the proofs of the functions rest.
-pub mod Sheets
 pub mod Readable
 pub mod Made
-pub mod WriteLaws
-pub mod MakeLaws
+pub mod LayoutLaws
+pub mod RoomLaws
+pub mod WrittenLaws
+pub mod SolvedLaws
+pub mod AnswerLaws

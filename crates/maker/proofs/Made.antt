@@ -3,7 +3,7 @@
 use Prim.Native.Nat.{ℕ, _+_, _*_, _/_, _≤_}
 use mathlib.Core.Path.{_≡_, sym, ap, _∙_}
 use mathlib.Core.Bool.{true}
-use mathlib.Core.List.{List, [], _∷_}
+use mathlib.Core.List.{List}
 use native.Mathlib.Omega.{arith}
 use native.Mathlib.Nat.{mul-le-mul-left, pow-le-pow-right}
 use lib.ListN.{length}
@@ -15,20 +15,19 @@ use Rattle.theory.specs.Delay.{Verdict, wins, losing, winning, words, arena, an
 use Rattle.theory.proofs.Answer.{check-accepted, accepted-on, accepted-same}
 use Rattle.theory.proofs.Rounds.{final-length}
 use Rattle.theory.proofs.Tables.{legal-actions}
-use Rattle.sheet.specs.Form.{entrySize, part}
 use Rattle.sheet.specs.Reading.{readAnswer, delayOf}
 use Rattle.sheet.specs.SheetGame.{gameOf}
 use Rattle.sheet.proofs.Accepted.{read-is, ranges, arena-nodes}
 use Rattle.sheet.proofs.Legality.{legal-game}
 use Rattle.sheet.specs.declared.reading.Layout.{Layout}
-use Rattle.text.specs.Numbers.{shortsText}
-use Rattle.text.proofs.Numbers.{length-shorts}
 use Rattle.solver.specs.Solving.{solveAnswer}
 use Rattle.table.specs.TableSheet.{tableAnswer}
-use Rattle.maker.specs.Making.{headerOf, rankBytes, tableSheetOf, rankSheetOf, Made, won, madeOf, outputSize, makeAnswer}
+use Rattle.writer.specs.SheetBytes.{headerOf, rankSheet}
+use Rattle.writer.proofs.Readable.{Ranged}
+use Rattle.writer.proofs.WriteLaws.{rank-size}
+use Rattle.maker.specs.Making.{tableSheetOf, rankSheetOf, Made, won, madeOf, outputSize, makeAnswer}
 use Rattle.theory.proofs.Monotone.{wins-winning}
-use Rattle.maker.proofs.Sheets.{before, length-sheet}
-use Rattle.maker.proofs.Readable.{Ranged, tableFor, table-sheet-length, made-readable}
+use Rattle.maker.proofs.Readable.{tableFor, table-sheet-length, made-readable}
 
 -- an accepted game sheet's numbers
 pub sheet-ranged : (s : List ℕ) (l : Layout) → readAnswer s ≡ accepted l → Ranged (gameOf s) (delayOf s)
@@ -56,16 +55,16 @@ made-won G d wins t e = (cc, cc)
 made-won G d (losing m) t e = let z : _≡_ {A = ℕ} 0 1 = cc in absurd (omega arith)
 
 -- the parts of an accepted making
-pub record Making (s : List ℕ) (outputRoom : ℕ) (x : Made) : Type 0 where
+pub record MadeParts (s : List ℕ) (outputRoom : ℕ) (x : Made) : Type 0 where
   pub layout : Layout
   pub reads : readAnswer s ≡ accepted layout
   pub made : x ≡ madeOf (gameOf s) (delayOf s) (answer (gameOf s) (delayOf s))
   pub room : outputSize (gameOf s) (delayOf s) ≤ outputRoom
 
 module _ (s : List ℕ) (masksRoom ranksRoom outputRoom : ℕ) where
-  pub making : (x : Made) → makeAnswer s masksRoom ranksRoom outputRoom ≡ accepted x → Making s outputRoom x
+  pub made-parts : (x : Made) → makeAnswer s masksRoom ranksRoom outputRoom ≡ accepted x → MadeParts s outputRoom x
   unfolding makeAnswer solveAnswer
-  making x e =
+  made-parts x e =
       let a = accepted-on _ _ e in
       let b = accepted-on _ _ (a .1) in
       let c = check-accepted _ _ _ (a .2) in
@@ -81,7 +80,7 @@ module _ (s : List ℕ) (masksRoom ranksRoom outputRoom : ℕ) where
 
   pub making-won : (t : List ℕ) → makeAnswer s masksRoom ranksRoom outputRoom ≡ accepted (won t) → Won s t
   making-won t e =
-      let m = making (won t) e in
+      let m = made-parts (won t) e in
       let r = sheet-ranged s (m .layout) (m .reads) in
       let w = made-won (gameOf s) (delayOf s) (answer (gameOf s) (delayOf s)) t (sym (m .made)) in
       let v = wins-winning (gameOf s) (delayOf s) (w .0) in
@@ -94,13 +93,11 @@ module _ (s : List ℕ) (masksRoom ranksRoom outputRoom : ℕ) where
 
 -- the made sheets fit
 
-pub rank-sheet-length : (G : Game) (m : ℕ) → length (rankSheetOf G m) ≡ 14 + 2 * arena G m .nodes
-unfolding rankSheetOf rankBytes entrySize before headerOf
-rank-sheet-length G m =
-    length-sheet 2 (part 83 (headerOf G m) ∷ part 82 (shortsText (finalRanks (arena G m))) ∷ [])
-    ∙ rw (length-shorts (finalRanks (arena G m)), final-length (arena G m)) (omega arith)
+rank-sheet-length : (G : Game) (m : ℕ) → length (rankSheetOf G m) ≡ 14 + 2 * arena G m .nodes
+unfolding rankSheetOf rankSheet headerOf
+rank-sheet-length G m = rank-size (headerOf G m) (finalRanks (arena G m)) ∙ rw (final-length (arena G m)) (omega arith)
 
-nodes-more : (G : Game) → Legal G → (m d : ℕ) → m ≤ d → arena G m .nodes ≤ arena G d .nodes
+pub nodes-more : (G : Game) → Legal G → (m d : ℕ) → m ≤ d → arena G m .nodes ≤ arena G d .nodes
 unfolding arena words
 nodes-more G legal m d h =
     let half : m / 2 ≤ d / 2 = omega arith in
@@ -110,6 +107,6 @@ pub ranks-fit : (G : Game) → Legal G → (m d : ℕ) → m ≤ d → length (r
 unfolding outputSize
 ranks-fit G legal m d h = rw (rank-sheet-length G m) (omega (arith, nodes-more G legal m d h))
 
-pub table-fits : (G : Game) (d : ℕ) → Ranged G d → length (tableSheetOf G d) ≤ outputSize G d
+pub table-fits : (G : Game) (d : ℕ) → length (tableSheetOf G d) ≤ outputSize G d
 unfolding outputSize
-table-fits G d r = rw (table-sheet-length G d r) (omega arith)
+table-fits G d = rw (table-sheet-length G d) (omega arith)

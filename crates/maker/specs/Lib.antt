@@ -1,2 +1,3 @@
--- The bytes of table sheets and rank sheets, and what making answers and leaves. Each file says what it defines.
+-- What making answers and leaves. Each file says what it defines.
 pub mod Making
+pub mod code

@@ -1,6 +1,5 @@
 // Making a sheet from a game sheet: document 01's refusals 1 to 9, then the table sheet or the rank sheet.
-use crate::writing::put_ranks;
-use crate::writing::put_table;
+use sheet::limits::MOST_WORDS;
 use sheet::reading::Layout;
 use sheet::reading::Reading;
 use sheet::reading::read;
@@ -12,23 +11,22 @@ use sheet::size::words_at;
 use solver::solve::Solution;
 use solver::solve::solve;
 use solver::words::initial_flags;
+use writer::writing::put_rank_sheet;
+use writer::writing::put_table_sheet;
 ghost use mathlib.Core.Path.{_≡_};
-ghost use Prim.Native.Nat.{_+_, _≤_, _^_};
+ghost use Prim.Native.Nat.{_≤_};
 ghost use lib.ListN.{length, take};
-ghost use Rattle.theory.specs.Strategy.{initialLength};
-ghost use Rattle.sheet.specs.Limits.{mostDelay};
-ghost use Rattle.sheet.specs.Checks.{nodesOf};
+ghost use Rattle.sheet.specs.Limits.{mostDelay, mostNodes, mostWords};
 ghost use Rattle.sheet.specs.Reading.{delayOf};
 ghost use Rattle.sheet.specs.SheetGame.{gameOf};
 ghost use Rattle.text.specs.Page.{Writes};
 ghost use Rattle.solver.specs.Solving.{masksSolved, ranksSolved};
-ghost use Rattle.maker.specs.Making.{headerBytes, rankBytes, tableSheetOf, shortOf, measured, makingMeans, Small, Ready, Solved, making, masksMade, ranksMade, outputMade};
+ghost use Rattle.writer.specs.SheetBytes.{rankBytes};
+ghost use Rattle.maker.specs.Making.{tableSheetOf, measured, makingMeans, making, masksMade, ranksMade, outputMade};
+ghost use Rattle.maker.specs.code.Checked.{Small, nodesAt, wordsAt, headerBytes, shortOf, Ready, HasTable};
 
 // The contents and the S body of a table sheet.
 const TABLE_START: usize = 19;
-
-// The most first words: three actions out of eight.
-const MOST_WORDS: usize = 512;
 
 // The length of the sheet that was written, with the losing delay where it is a rank sheet.
 pub enum Making {
@@ -40,7 +38,7 @@ pub enum Making {
 // Checks 8 and 9: the refusal's number, 0 where both pass.
 fn short_buffer(l: Layout, masks: usize, ranks: usize, out: usize) -> u8
     requires { ⌜ Small l ⌝ }
-    ensures { λ r. ⌜ r ≡ shortOf (nodesOf (l .positions .size) (l .actions) (l .delay)) (l .actions ^ initialLength (l .delay)) masks ranks out ⌝ }
+    ensures { λ r. ⌜ r ≡ shortOf (nodesAt l (l .delay)) (wordsAt l) masks ranks out ⌝ }
 {
     let positions = l.positions;
     let nodes = nodes_at(positions.size as u16, l.actions, l.delay);
@@ -68,35 +66,55 @@ fn header(l: Layout, m: u8) -> [u8; 4]
 
 // The rank sheet at delay m.
 fn write_ranks(l: Layout, m: u8, ranks: &[u16], out: &mut [u8]) -> usize
-    requires { ⌜ (Small l) × (m ≤ mostDelay) × (nodesOf (l .positions .size) (l .actions) m ≤ length (now ranks)) ⌝ }
-    ensures { λ r. ⌜ Writes (now (out .entry)) 0 (rankBytes (headerBytes l m) (take (nodesOf (l .positions .size) (l .actions) m) (now (ranks .entry)))) (now (out .exit)) r ⌝ }
+    requires { ⌜ (Small l) × (m ≤ mostDelay) × (nodesAt l m ≤ mostNodes) × (nodesAt l m ≤ length (now ranks)) ⌝ }
+    ensures { λ r. ⌜ Writes (now (out .entry)) 0 (rankBytes (headerBytes l m) (take (nodesAt l m) (now (ranks .entry))))
+        (now (out .exit)) r ⌝ }
 {
     let positions = l.positions;
     let nodes = nodes_at(positions.size as u16, l.actions, m);
     let h = header(l, m);
-    put_ranks(out, &h, &ranks[..nodes])
+    put_rank_sheet(out, &h, &ranks[..nodes])
 }
 
-// The table sheet at the asked delay.
-fn write_table(sheet: &[u8], l: Layout, masks: &[u8], ranks: &[u16], out: &mut [u8]) -> usize
-    requires { ⌜ Solved (now sheet) l (now masks) (now ranks) ⌝ }
-    ensures { λ r. ⌜ Writes (now (out .entry)) 0 (tableSheetOf (gameOf (now (sheet .entry))) (delayOf (now (sheet .entry)))) (now (out .exit)) r ⌝ }
+// The table sheet at the asked delay, with a lent buffer for the flags of the first words.
+fn write_flagged(
+    sheet: &[u8],
+    l: Layout,
+    masks: &[u8],
+    ranks: &[u16],
+    flags: &mut [u8],
+    out: &mut [u8],
+) -> usize
+    requires { ⌜ (HasTable (now sheet) l (now masks) (now ranks)) × (mostWords ≤ length (now flags)) ⌝ }
+    ensures { λ r. ⌜ Writes (now (out .entry)) 0 (tableSheetOf (gameOf (now (sheet .entry))) (delayOf (now (sheet .entry))))
+        (now (out .exit)) r ⌝ }
 {
     let positions = l.positions;
     let nodes = nodes_at(positions.size as u16, l.actions, l.delay);
-    let mut flags = [0u8; MOST_WORDS];
-    let words = initial_flags(sheet, &ranks[..nodes], &mut flags);
+    let words = initial_flags(sheet, ranks, flags);
     let h = header(l, l.delay);
-    put_table(out, &h, &flags[..words], &masks[..nodes])
+    put_table_sheet(out, &h, &flags[..words], &masks[..nodes])
+}
+
+// The same with a buffer of its own. Nothing else is done beside the array: with it in scope a search for a proof breaks off.
+fn write_table(sheet: &[u8], l: Layout, masks: &[u8], ranks: &[u16], out: &mut [u8]) -> usize
+    requires { ⌜ HasTable (now sheet) l (now masks) (now ranks) ⌝ }
+    ensures { λ r. ⌜ Writes (now (out .entry)) 0 (tableSheetOf (gameOf (now (sheet .entry))) (delayOf (now (sheet .entry))))
+        (now (out .exit)) r ⌝ }
+{
+    let mut flags = [0u8; MOST_WORDS];
+    write_flagged(sheet, l, masks, ranks, &mut flags, out)
 }
 
 // Solving and writing, once every check has passed.
 fn make_read(sheet: &[u8], l: Layout, masks: &mut [u8], ranks: &mut [u16], out: &mut [u8]) -> Making
     requires { ⌜ Ready (now sheet) l (length (now masks)) (length (now ranks)) (length (now out)) ⌝ }
-    ensures answer { λ r. ⌜ makingMeans r ≡ measured (making (now (sheet .entry)) (now (masks .entry)) (now (ranks .entry)) (now (out .entry))) ⌝ }
+    ensures answer { λ r. ⌜ makingMeans r
+        ≡ measured (making (now (sheet .entry)) (now (masks .entry)) (now (ranks .entry)) (now (out .entry))) ⌝ }
     ensures masks { λ r. ⌜ now (masks .exit) ≡ masksSolved (now (sheet .entry)) (now (masks .entry)) (now (ranks .entry)) ⌝ }
     ensures ranks { λ r. ⌜ now (ranks .exit) ≡ ranksSolved (now (sheet .entry)) (now (masks .entry)) (now (ranks .entry)) ⌝ }
-    ensures output { λ r. ⌜ now (out .exit) ≡ outputMade (now (sheet .entry)) (now (masks .entry)) (now (ranks .entry)) (now (out .entry)) ⌝ }
+    ensures output { λ r. ⌜ now (out .exit)
+        ≡ outputMade (now (sheet .entry)) (now (masks .entry)) (now (ranks .entry)) (now (out .entry)) ⌝ }
 {
     let solution = solve(sheet, masks, ranks);
     match solution {
@@ -107,10 +125,14 @@ fn make_read(sheet: &[u8], l: Layout, masks: &mut [u8], ranks: &mut [u16], out: 
 }
 
 pub fn make(sheet: &[u8], masks: &mut [u8], ranks: &mut [u16], out: &mut [u8]) -> Making
-    ensures answer { λ r. ⌜ makingMeans r ≡ measured (making (now (sheet .entry)) (now (masks .entry)) (now (ranks .entry)) (now (out .entry))) ⌝ }
-    ensures masks { λ r. ⌜ now (masks .exit) ≡ masksMade (now (sheet .entry)) (now (masks .entry)) (now (ranks .entry)) (now (out .entry)) ⌝ }
-    ensures ranks { λ r. ⌜ now (ranks .exit) ≡ ranksMade (now (sheet .entry)) (now (masks .entry)) (now (ranks .entry)) (now (out .entry)) ⌝ }
-    ensures output { λ r. ⌜ now (out .exit) ≡ outputMade (now (sheet .entry)) (now (masks .entry)) (now (ranks .entry)) (now (out .entry)) ⌝ }
+    ensures answer { λ r. ⌜ makingMeans r
+        ≡ measured (making (now (sheet .entry)) (now (masks .entry)) (now (ranks .entry)) (now (out .entry))) ⌝ }
+    ensures masks { λ r. ⌜ now (masks .exit)
+        ≡ masksMade (now (sheet .entry)) (now (masks .entry)) (now (ranks .entry)) (now (out .entry)) ⌝ }
+    ensures ranks { λ r. ⌜ now (ranks .exit)
+        ≡ ranksMade (now (sheet .entry)) (now (masks .entry)) (now (ranks .entry)) (now (out .entry)) ⌝ }
+    ensures output { λ r. ⌜ now (out .exit)
+        ≡ outputMade (now (sheet .entry)) (now (masks .entry)) (now (ranks .entry)) (now (out .entry)) ⌝ }
 {
     let reading = read(sheet);
     let Reading::Accepted(l) = reading else {

@@ -1,7 +1,8 @@
 // Bytes, slices of bytes and numbers of two bytes.
-ghost use mathlib.Core.Path.{_≡_};
+use sheet::form::low_byte;
+use sheet::form::wide16;
 ghost use mathlib.Core.List.{_∷_, []};
-ghost use Prim.Native.Nat.{_%_, _<_};
+ghost use Prim.Native.Nat.{_<_};
 ghost use lib.ListN.{length};
 ghost use Rattle.text.specs.Page.{Writes};
 ghost use Rattle.text.specs.Numbers.{shortAt, shortsText};
@@ -30,24 +31,12 @@ pub fn put_text(out: &mut [u8], at: usize, text: &[u8]) -> usize
     to
 }
 
-fn low_byte(n: usize) -> u8
-    ensures { λ r. ⌜ r ≡ n % 256 ⌝ }
-{
-    (n % 256) as u8
-}
-
 // The lowest two bytes of a number, low byte first.
 pub fn put_bytes2(out: &mut [u8], at: usize, n: usize) -> usize
     ensures { λ r. ⌜ Writes (now (out .entry)) at (bytesOf 2 n) (now (out .exit)) r ⌝ }
 {
     let to = put_byte(out, at, low_byte(n));
     put_byte(out, to, low_byte(n / 256))
-}
-
-pub(crate) fn wide16(x: u16) -> usize
-    ensures { λ r. ⌜ r ≡ x ⌝ }
-{
-    x as usize
 }
 
 fn put_short_at(out: &mut [u8], at: usize, numbers: &[u16], k: usize) -> usize

@@ -1,12 +1,12 @@
 // The lines of the listing, and the writers of many lines.
 use super::bytes::put_byte;
 use super::bytes::put_text;
-use super::bytes::wide16;
 use super::digits::put_number;
 use super::digits::put_set;
 use super::digits::put_word;
 use super::digits::without_last;
-ghost use mathlib.Core.Path.{_≡_};
+use sheet::form::wide;
+use sheet::form::wide16;
 ghost use Prim.Native.Nat.{_<_};
 ghost use lib.ListN.{length};
 ghost use Rattle.text.specs.Page.{Writes};
@@ -138,12 +138,6 @@ pub fn put_starts(out: &mut [u8], at: usize, actions: usize, count: usize, flags
     to
 }
 
-fn wide8(x: u8) -> usize
-    ensures { λ r. ⌜ r ≡ x ⌝ }
-{
-    x as usize
-}
-
 fn put_allow_at(
     out: &mut [u8],
     at: usize,
@@ -155,7 +149,7 @@ fn put_allow_at(
     requires { ⌜ node < length (now masks) ⌝ }
     ensures { λ r. ⌜ Writes (now (out .entry)) at (allowAt actions count (now (masks .entry)) node) (now (out .exit)) r ⌝ }
 {
-    let mask = wide8(masks[node]);
+    let mask = wide(masks[node]);
     if mask == 0 {
         return at;
     }

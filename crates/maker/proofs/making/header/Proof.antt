@@ -1,6 +1,6 @@
 -- `header` meets its contract: the bytes are written as the definition has them. Assumes nothing.
 use borrow.Author.Needs.{needs}
-use Rattle.maker.specs.Making.{headerBytes}
+use Rattle.maker.specs.code.Checked.{headerBytes}
 use Rattle.maker.proofs.making.header.Statement.{statement}
 use Rattle.maker.proofs.making.header.Tie as tie
 

@@ -1,7 +1,8 @@
--- `make` meets its contract, by the laws of MakeLaws.antt. Assumes nothing.
+-- `make` meets its contract, by the laws of AnswerLaws.antt. Assumes nothing.
 use mathlib.Core.Path.{refl}
 use borrow.Author.Needs.{needs}
-use Rattle.maker.proofs.MakeLaws.{makes, refuses, accepts, make-is, reading-refused, short-refused, short-ready}
+use Rattle.maker.proofs.SolvedLaws.{make-is}
+use Rattle.maker.proofs.AnswerLaws.{reads, refuses, accepts, reading-refused, read-says}
 use Rattle.maker.proofs.making.make.Statement.{statement}
 use Rattle.maker.proofs.making.make.Tie as tie
 
@@ -14,7 +15,7 @@ returns-2 : tie.Need-returns-2
 returns-2 c =
     let r = c .before .before .before in
     refuses _ _
-    (short-refused _ _ (r .before .before .read .ensures) _ _ _ _ (r .reading .given .1) _ (c .before .short-buffer .ensures) (c .if1 .taken)) _
+    (read-says _ _ (r .before .before .read .ensures) _ (r .reading .given .1) _ _ _ _ (c .before .short-buffer .ensures) .refuses (c .if1 .taken)) _
     refl _ _ _ _ _
 
 returns-3 : tie.Need-returns-3
@@ -25,12 +26,12 @@ returns-3 c =
     let a = r .before .before .before .before .before .before .before in
     accepts _ _
     (make-is _ _ (a .args .masks .now) (a .args .ranks .now) (a .args .out .now)
-    (short-ready _ _ (r .before .before .read .ensures) _ _ _ _ (r .reading .given .1) _ (i .before .short-buffer .ensures) (i .if1 .left)))
+    (read-says _ _ (r .before .before .read .ensures) _ (r .reading .given .1) _ _ _ _ (i .before .short-buffer .ensures) .ready (i .if1 .left)))
     _ _ _ _ _ _ _ _ _ (m .make-read .ensures .0) (m .make-read .ensures .1 .0) (m .make-read .ensures .1 .1 .0) (m .make-read .ensures .1 .1 .1)
 
 pub make-spec : {M : Type 1} → statement M
 make-spec =
     tie.close
     (tie.spec (λ c κs. search needs) (λ c. search needs) (λ c. search needs) (λ c κs. search needs) returns
-    (λ c κs. search makes) returns-2 (λ c κs. search makes) (λ c. search needs) (λ c. search needs)
+    (λ c κs. search reads) returns-2 (λ c κs. search reads) (λ c. search needs) (λ c. search needs)
     (λ c. search needs) returns-3)

@@ -1,6 +1,6 @@
--- `make_read` meets its contract, by the laws of MakeLaws.antt. Assumes nothing.
+-- `make_read` meets its contract, by the laws of SolvedLaws.antt. Assumes nothing.
 use borrow.Author.Needs.{needs}
-use Rattle.maker.proofs.MakeLaws.{make-reads, makes-won, makes-lost, no-refusal}
+use Rattle.maker.proofs.SolvedLaws.{solved, makes-won, makes-lost, no-refusal}
 use Rattle.maker.proofs.making.make_read.Statement.{statement}
 use Rattle.maker.proofs.making.make_read.Tie as tie
 
@@ -30,7 +30,7 @@ returns-3 c =
 pub make-read-spec : {M : Type 1} → statement M
 make-read-spec =
     tie.close
-    (tie.spec (λ c κs. search needs) (λ c. search needs) (λ c κs. search make-reads) (λ c. search needs)
-    (λ c κs. search make-reads) (λ c. search needs) (λ c. search needs) (λ c. search needs) (λ c. search needs)
+    (tie.spec (λ c κs. search needs) (λ c. search needs) (λ c κs. search solved) (λ c. search needs)
+    (λ c κs. search solved) (λ c. search needs) (λ c. search needs) (λ c. search needs) (λ c. search needs)
     returns (λ c. search needs) (λ c. search needs) (λ c. search needs) returns-2 (λ c. search needs)
     (λ c. search needs) returns-3)

@@ -1,6 +1,6 @@
--- `short_buffer` meets its contract, by the laws of MakeLaws.antt. Assumes nothing.
+-- `short_buffer` meets its contract, by the laws of RoomLaws.antt. Assumes nothing.
 use borrow.Author.Needs.{needs}
-use Rattle.maker.proofs.MakeLaws.{shorts}
+use Rattle.maker.proofs.RoomLaws.{shorts}
 use Rattle.maker.proofs.making.short_buffer.Statement.{statement}
 use Rattle.maker.proofs.making.short_buffer.Tie as tie
 

@@ -1,6 +1,6 @@
--- `write_ranks` meets its contract, by the laws of MakeLaws.antt. Assumes nothing.
+-- `write_ranks` meets its contract, by the laws of WrittenLaws.antt. Assumes nothing.
 use borrow.Author.Needs.{needs}
-use Rattle.maker.proofs.MakeLaws.{rank-sheets}
+use Rattle.maker.proofs.WrittenLaws.{rank-sheets}
 use Rattle.maker.proofs.making.write_ranks.Statement.{statement}
 use Rattle.maker.proofs.making.write_ranks.Tie as tie
 

@@ -1,0 +1,2 @@
+-- What the contracts of the listing's inner writers cite.
+pub mod Parts

@@ -1,4 +1,0 @@
-// The listing program on the sorting hall at lag 2: winning, with words of one command.
-fn main() {
-    lister::run();
-}

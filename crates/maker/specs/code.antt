@@ -1,0 +1,2 @@
+-- What the contracts of making's inner functions cite.
+pub mod Checked

@@ -1,0 +1,2 @@
+-- What the contracts of the writers' inner functions cite.
+pub mod Room
