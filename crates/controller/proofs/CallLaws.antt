@@ -273,7 +273,7 @@ module _ (t : List ℕ) (y : TableReading) (ey : tableReadingMeans t y ≡ table
     read-short = usable t (tableAt t l) answers .short-delay
 
     pub opens : (r : Step) (s : State) → s ≡ opened → r ≡ step Accepted s → stepMeans r ≡ openReply t
-    unfolding openReply openAnswer onAccepted
+    unfolding openAnswer onAccepted
     opens r s o q = ap stepMeans q ∙ ap (λ s. stepMeans (step Accepted s)) o ∙ rw answers
 
     pub observing : (r : Step) (s : State) (k p : ℕ) → stepMeans r ≡ afterObserving s (observeWith (says l [] []) s k p)
@@ -291,7 +291,7 @@ module _ (t : List ℕ) (y : TableReading) (ey : tableReadingMeans t y ≡ table
     refuses = sym ey ∙ ap (tableReadingMeans t) en
 
     pub opens-not : (r : Step) (s : State) → s ≡ opened → r ≡ step (Refused n) s → stepMeans r ≡ openReply t
-    unfolding openReply openAnswer onAccepted
+    unfolding openAnswer onAccepted
     opens-not r s o q = ap stepMeans q ∙ ap (λ s. stepMeans (step (Refused n) s)) o ∙ rw refuses
 
     pub observe-not : (r : Step) (s : State) (k p : ℕ) → r ≡ step (Refused n) s → stepMeans r ≡ reply t s (observe k p)

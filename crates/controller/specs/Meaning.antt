@@ -23,7 +23,7 @@ abbrev pub stepMeans : Step → Reply
 stepMeans r = record { response = responseOf (r .decision); state = r .state }
 
 -- opening has no state before it: beside a refusal stands the opened one
-unfoldable pub openReply : List ℕ → Reply
+abbrev pub openReply : List ℕ → Reply
 openReply t = afterObserving opened (openAnswer t)
 
 -- what a readable sheet's numbers and masks are

@@ -6,6 +6,7 @@ use mathlib.Core.List.{List, [], _∷_}
 use native.Mathlib.Omega.{arith}
 use lib.Dec.{eqb}
 use lib.ListN.{length, getD}
+use Rattle.theory.specs.Fold.{tabulate}
 use Rattle.state.specs.State.{unknown, slotAt}
 use Rattle.state.specs.StateBytes.{turnFrom, slotFrom, slotIn, windowIn, decodeState, flagOf, slotBytes, encodeState}
 use Rattle.state.specs.declared.state.Slot.{Slot}
@@ -23,7 +24,7 @@ unfolding decodeState
 three-decoded b = refl
 
 pub seven-decoded : (b : List ℕ) → length (decodeState b .window) ≡ 7
-unfolding decodeState windowIn
+unfolding decodeState windowIn tabulate
 seven-decoded b = refl
 
 -- decoding what was encoded
@@ -61,7 +62,7 @@ window-back (a ∷ b ∷ c ∷ d ∷ f ∷ g ∷ h ∷ []) e = refl
 window-back (a ∷ b ∷ c ∷ d ∷ f ∷ g ∷ h ∷ j ∷ l) e = absurd (omega arith)
 
 slots-back : (s : State) → length (s .window) ≡ 7 → decodeState (encodeState s) .window ≡ s .window
-unfolding decodeState encodeState windowIn slotIn slotBytes slotAt
+unfolding decodeState encodeState windowIn slotIn slotBytes slotAt tabulate
 slots-back s e = simp slot-back (window-back (s .window) e)
 
 pub decode-encode : (s : State) → Held s → decodeState (encodeState s) ≡ s

@@ -1,10 +1,11 @@
 // The controller's state as 21 bytes that the caller keeps (include/loquatquoits.h). Any bytes are a state.
+use crate::state::SLOTS;
 use crate::state::Slot;
 use crate::state::State;
 use sheet::form::wide;
 ghost use mathlib.Core.Path.{_≡_};
 ghost use Prim.Native.Nat.{_%_};
-ghost use Rattle.state.specs.StateBytes.{turnFrom, slotFrom, windowIn, decodeState, flagOf, encodeState};
+ghost use Rattle.state.specs.StateBytes.{turnFrom, slotFrom, windowIn, decodeState, flagOf, encodeState, slotFilled};
 
 // The turn from its four bytes, the low one first.
 fn turn_from(a: u8, b: u8, c: u8, d: u8) -> usize
@@ -96,4 +97,19 @@ pub fn encode(s: State) -> [u8; 21]
         flag(w6),
         w6.position,
     ]
+}
+
+// Writes position to slot k. A slot that is known is left as it is, byte for byte, and so is everything else.
+pub fn fill_slot(b: &mut [u8; 21], k: usize, position: u8)
+    ensures { λ r. ⌜ now (b .exit) ≡ slotFilled (now (b .entry)) k position ⌝ }
+{
+    if SLOTS <= k {
+        return;
+    }
+    let at = 7 + 2 * k;
+    if b[at] != 0 {
+        return;
+    }
+    b[at] = 1;
+    b[at + 1] = position;
 }

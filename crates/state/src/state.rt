@@ -7,7 +7,7 @@ ghost use Rattle.state.specs.State.{unknown, opened, agrees, pushed, shi
 // The last turn: no action is taken at it.
 pub const LAST_TURN: usize = 1000000;
 
-const SLOTS: usize = 7;
+pub(crate) const SLOTS: usize = 7;
 
 // An observation: is the position of this index known, and which one it is.
 pub struct Slot {
