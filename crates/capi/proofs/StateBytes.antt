@@ -13,8 +13,8 @@ use Rattle.theory.specs.Exact.{MaybeAction, none, some}
 use Rattle.theory.proofs.Fold.{both-left}
 use Rattle.theory.proofs.Answer.{refused-not-accepted, accepted-same, check-accepted, accepted-on}
 use Rattle.table.specs.TableSheet.{TableSheet, tableAnswer}
-use Rattle.state.specs.State.{lastTurn, slots, opened, slotAt, stateOk, pushed, shifted, actedState}
-use Rattle.state.specs.StateBytes.{decodeState, slotBytes, encodeState, slotFilled}
+use Rattle.state.specs.State.{lastTurn, mostHeld, slots, opened, slotAt, stateOk, pushed, shifted, actedState}
+use Rattle.state.specs.StateBytes.{stateBytes, decodeState, slotBytes, encodeState, slotFilled}
 use Rattle.state.proofs.RoundTrip.{Held, three-decoded, seven-decoded, decode-encode}
 use Rattle.state.proofs.Repeat.{repeat-bytes, decode-filled, length-filled}
 use Rattle.state.specs.declared.state.State.{State}
@@ -26,7 +26,7 @@ use Rattle.capi.specs.Controlled.{bytesOpened, actionAfter, callNumber, 
 
 -- the next state of an accepted acting has bytes
 
-module _ (t : List ℕ) (s : State) (three : length (s .last) ≡ 3) (seven : length (s .window) ≡ 7) where
+module _ (t : List ℕ) (s : State) (three : length (s .last) ≡ mostHeld) (seven : length (s .window) ≡ slots) where
   turn-few : (x : TableSheet) → stateOk x s ≡ true → s .turn ≤ lastTurn
   unfolding stateOk
   turn-few x e = leb-true (s .turn) lastTurn (both-left _ _ e)
@@ -70,8 +70,8 @@ unfolding byAnswer
 act-follows b (refused n) f = refl
 act-follows b (accepted g) f = decode-encode (g .state) (f g refl)
 
--- an accepted observation of any 21 bytes: filling its slot gives the observed state
-filled-follows : (t b : List ℕ) (k p : ℕ) (n : State) → length b ≡ 21 → observeAnswer t (decodeState b) k p ≡ accepted n
+-- an accepted observation of any bytes of a state: filling its slot gives the observed state
+filled-follows : (t b : List ℕ) (k p : ℕ) (n : State) → length b ≡ stateBytes → observeAnswer t (decodeState b) k p ≡ accepted n
     → decodeState (slotFilled b (2 * decodeState b .turn - k) p) ≡ n
 unfolding observeAnswer observeWith
 filled-follows t b k p n long e =
@@ -86,17 +86,17 @@ filled-follows t b k p n long e =
     let slot : 2 * decodeState b .turn - k < slots = omega (arith, short, old) in
     decode-filled b (2 * decodeState b .turn - k) p long slot (h .0) ∙ accepted-same (h .1)
 
--- for any 21 bytes: what a call leaves decodes to the state that the controller's call leaves
-pub bytes-follow : (t b : List ℕ) (c : Call) → length b ≡ 21 → decodeState (bytesAfter t b c) ≡ reply t (decodeState b) c .state
+-- for any bytes of a state: what a call leaves decodes to the state that the controller's call leaves
+pub bytes-follow : (t b : List ℕ) (c : Call) → length b ≡ stateBytes → decodeState (bytesAfter t b c) ≡ reply t (decodeState b) c .state
 bytes-follow t b (observe k p) long =
     observe-follows b _ (observeAnswer t (decodeState b) k p) (λ n e. filled-follows t b k p n long e)
 bytes-follow t b act long = act-follows b (actAnswer t (decodeState b)) (acted-held t (decodeState b) (three-decoded b) (seven-decoded b))
 
--- and there are 21 of them
-pub bytes-long : (t b : List ℕ) (c : Call) → length b ≡ 21 → length (bytesAfter t b c) ≡ 21
+-- and there are as many of them
+pub bytes-long : (t b : List ℕ) (c : Call) → length b ≡ stateBytes → length (bytesAfter t b c) ≡ stateBytes
 unfolding encodeState slotBytes
-bytes-long t b (observe k p) long = written-is (λ (l : List ℕ). length l ≡ 21) _ _ b long (λ s. length-filled b _ p ∙ long)
-bytes-long t b act long = written-is (λ (l : List ℕ). length l ≡ 21) _ _ b long (λ a. refl)
+bytes-long t b (observe k p) long = written-is (λ (l : List ℕ). length l ≡ stateBytes) _ _ b long (λ s. length-filled b _ p ∙ long)
+bytes-long t b act long = written-is (λ (l : List ℕ). length l ≡ stateBytes) _ _ b long (λ a. refl)
 
 opened-back : decodeState (encodeState opened) ≡ opened
 opened-back = decode-encode opened (record { short-turn = omega arith; three = refl; seven = refl })
@@ -107,7 +107,7 @@ unfolding byAnswer
 open-follows t b e = rw e opened-back
 
 -- a list of calls: the state that its bytes decode to is the one of the controller's list, call after call
-pub calls-follow : (t b : List ℕ) (s : Progress) (calls : List Call) → length b ≡ 21 → decodeState b ≡ s .state
+pub calls-follow : (t b : List ℕ) (s : Progress) (calls : List Call) → length b ≡ stateBytes → decodeState b ≡ s .state
     → decodeState (runBytes t b calls) ≡ runCalls t s calls .state
 unfolding runBytes runCalls callStep
 calls-follow t b s [] long e = e

@@ -4,6 +4,7 @@ use controller::calls::act;
 use controller::calls::observe;
 use controller::calls::opening;
 use sheet::refusal::number;
+use state::bytes::STATE_BYTES;
 use state::bytes::decode;
 use state::bytes::encode;
 use state::bytes::fill_slot;
@@ -13,7 +14,7 @@ ghost use Rattle.capi.specs.Exported.{numberFor};
 ghost use Rattle.capi.specs.Controlled.{observing, acting, bytesOpened, bytesObserved, bytesActed, actionAfter};
 
 #[no_mangle]
-pub extern "C" fn lq_open(sheet: &[u8], state: &mut [u8; 21]) -> u8
+pub extern "C" fn lq_open(sheet: &[u8], state: &mut [u8; STATE_BYTES]) -> u8
     ensures number { λ r. ⌜ r ≡ numberFor (openAnswer (now (sheet .entry))) ⌝ }
     ensures state { λ r. ⌜ now (state .exit) ≡ bytesOpened (now (sheet .entry)) (now (state .entry)) ⌝ }
 {
@@ -30,7 +31,12 @@ pub extern "C" fn lq_open(sheet: &[u8], state: &mut [u8; 21]) -> u8
 }
 
 #[no_mangle]
-pub extern "C" fn lq_observe(sheet: &[u8], state: &mut [u8; 21], index: usize, position: u8) -> u8
+pub extern "C" fn lq_observe(
+    sheet: &[u8],
+    state: &mut [u8; STATE_BYTES],
+    index: usize,
+    position: u8,
+) -> u8
     ensures number { λ r. ⌜ r ≡ numberFor (observing (now (sheet .entry)) (now (state .entry)) index position) ⌝ }
     ensures state { λ r. ⌜ now (state .exit) ≡ bytesObserved (now (sheet .entry)) (now (state .entry)) index position ⌝ }
 {
@@ -49,7 +55,7 @@ pub extern "C" fn lq_observe(sheet: &[u8], state: &mut [u8; 21], index: usize, p
 }
 
 #[no_mangle]
-pub extern "C" fn lq_act(sheet: &[u8], state: &mut [u8; 21], action: &mut u8) -> u8
+pub extern "C" fn lq_act(sheet: &[u8], state: &mut [u8; STATE_BYTES], action: &mut u8) -> u8
     ensures number { λ r. ⌜ r ≡ numberFor (acting (now (sheet .entry)) (now (state .entry))) ⌝ }
     ensures state { λ r. ⌜ now (state .exit) ≡ bytesActed (now (sheet .entry)) (now (state .entry)) ⌝ }
     ensures action { λ r. ⌜ now (action .exit) ≡ actionAfter (now (sheet .entry)) (now (state .entry)) (now (action .entry)) ⌝ }

@@ -19,10 +19,14 @@ pub extern "C" fn lq_make(
     size: &mut usize,
     losing: &mut u8,
 ) -> u8
-    ensures number { λ r. ⌜ r ≡ numberFor (madeAnswer (now (sheet .entry)) (now (masks .entry)) (now (ranks .entry)) (now (out .entry))) ⌝ }
-    ensures masks { λ r. ⌜ now (masks .exit) ≡ masksMade (now (sheet .entry)) (now (masks .entry)) (now (ranks .entry)) (now (out .entry)) ⌝ }
-    ensures ranks { λ r. ⌜ now (ranks .exit) ≡ ranksMade (now (sheet .entry)) (now (masks .entry)) (now (ranks .entry)) (now (out .entry)) ⌝ }
-    ensures output { λ r. ⌜ now (out .exit) ≡ outputMade (now (sheet .entry)) (now (masks .entry)) (now (ranks .entry)) (now (out .entry)) ⌝ }
+    ensures number { λ r. ⌜ r
+        ≡ numberFor (madeAnswer (now (sheet .entry)) (now (masks .entry)) (now (ranks .entry)) (now (out .entry))) ⌝ }
+    ensures masks { λ r. ⌜ now (masks .exit)
+        ≡ masksMade (now (sheet .entry)) (now (masks .entry)) (now (ranks .entry)) (now (out .entry)) ⌝ }
+    ensures ranks { λ r. ⌜ now (ranks .exit)
+        ≡ ranksMade (now (sheet .entry)) (now (masks .entry)) (now (ranks .entry)) (now (out .entry)) ⌝ }
+    ensures output { λ r. ⌜ now (out .exit)
+        ≡ outputMade (now (sheet .entry)) (now (masks .entry)) (now (ranks .entry)) (now (out .entry)) ⌝ }
     ensures size { λ r. ⌜ now (size .exit)
         ≡ madeSize (now (sheet .entry)) (now (masks .entry)) (now (ranks .entry)) (now (out .entry)) (now (size .entry)) ⌝ }
     ensures losing { λ r. ⌜ now (losing .exit)

@@ -23,6 +23,7 @@ use Rattle.theory.specs.Exact.{some, leastFlagged, lowestIn, actionAt}
 use Rattle.theory.proofs.Fold.{both-left, both-right, either-left, all-at, below?, failed, passed}
 use Rattle.theory.proofs.Answer.{check-accepted, accepted-on}
 use Rattle.theory.proofs.Masks.{lowest-acts, lowest-missing, lowest-trailing}
+use Rattle.sheet.specs.Limits.{mostActions, mostDelay}
 use Rattle.sheet.specs.Form.{partAt}
 use Rattle.sheet.specs.Refusals.{numberOf}
 use Rattle.sheet.specs.declared.refusal.Refusal.{Refusal}
@@ -241,8 +242,8 @@ usable t x e =
     subst Usable (sym y)
     (record {
       some-action = leb-true 1 (decode t .actions) (both-left _ _ p);
-      few-actions = leb-true (decode t .actions) 8 (both-left _ _ q);
-      short-delay = leb-true (decode t .delay) 6 (both-left _ _ (both-right _ _ q));
+      few-actions = leb-true (decode t .actions) mostActions (both-left _ _ q);
+      short-delay = leb-true (decode t .delay) mostDelay (both-left _ _ (both-right _ _ q));
       small-masks = small (both-right _ _ (both-right _ _ (both-right _ _ (m .0))));
     })
   where
@@ -269,7 +270,7 @@ module _ (t : List ℕ) (y : TableReading) (ey : tableReadingMeans t y ≡ table
     pub read-usable : (f m : List ℕ) → f ≡ partAt t (l .flags) → m ≡ partAt t (l .masks) → Usable (says l f m)
     read-usable f m ef em = rw (ef, em) (usable t (tableAt t l) answers)
 
-    pub read-short : l .delay ≤ 6
+    pub read-short : l .delay ≤ mostDelay
     read-short = usable t (tableAt t l) answers .short-delay
 
     pub opens : (r : Step) (s : State) → s ≡ opened → r ≡ step Accepted s → stepMeans r ≡ openReply t

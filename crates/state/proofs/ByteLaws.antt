@@ -11,7 +11,7 @@ use borrow.Author.Tests.{le-leb, lt-leb, eq-eqb, ne-eqb}
 use Rattle.theory.specs.Fold.{either, tabulate}
 use Rattle.theory.proofs.Fold.{either-left}
 use Rattle.state.specs.State.{slots, unknown, slotAt}
-use Rattle.state.specs.StateBytes.{turnFrom, slotFrom, slotIn, windowIn, decodeState, flagOf, slotBytes, encodeState, slotFilled}
+use Rattle.state.specs.StateBytes.{knownAt, positionAt, turnFrom, slotFrom, slotIn, windowIn, decodeState, flagOf, slotBytes, encodeState, slotFilled}
 use Rattle.state.specs.declared.state.Slot.{Slot}
 use Rattle.state.specs.declared.state.State.{State}
 
@@ -78,14 +78,14 @@ module _ (b : List ℕ) (k p : ℕ) where
   filled-none h = rw (either-left (leb slots k) (slotIn b k .known) (le-leb slots k h))
 
   module _ (h : k < slots) where
-    pub filled-known : (getD b (7 + 2 * k) 0 ≡ 0 → ⊥) → b ≡ slotFilled b k p
+    pub filled-known : (getD b (knownAt k) 0 ≡ 0 → ⊥) → b ≡ slotFilled b k p
     unfolding slotFilled slotIn slotFrom either
-    filled-known z = rw (lt-leb slots k h, ne-eqb (getD b (7 + 2 * k) 0) 0 z)
+    filled-known z = rw (lt-leb slots k h, ne-eqb (getD b (knownAt k) 0) 0 z)
 
-    pub filled-new : getD b (7 + 2 * k) 0 ≡ 0 → set (set b (7 + 2 * k) 1) (7 + 2 * k + 1) p ≡ slotFilled b k p
+    pub filled-new : getD b (knownAt k) 0 ≡ 0 → set (set b (knownAt k) 1) (knownAt k + 1) p ≡ slotFilled b k p
     unfolding slotFilled slotIn slotFrom either
     filled-new z =
-        let q : 7 + 2 * k + 1 ≡ 8 + 2 * k = omega arith in
-        ap (λ at. set (set b (7 + 2 * k) 1) at p) q ∙ rw (lt-leb slots k h, eq-eqb (getD b (7 + 2 * k) 0) 0 z)
+        let q : knownAt k + 1 ≡ positionAt k = omega arith in
+        ap (λ at. set (set b (knownAt k) 1) at p) q ∙ rw (lt-leb slots k h, eq-eqb (getD b (knownAt k) 0) 0 z)
 
 pub ruleset fills = (needs, filled-none, filled-known, filled-new)

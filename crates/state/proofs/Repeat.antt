@@ -12,7 +12,7 @@ use lib.Seq.{getD-set-same, getD-set-other, set-getD}
 use Rattle.theory.specs.Fold.{either}
 use Rattle.theory.proofs.Fold.{bool, below?, either-left, either-right, getD-tabulate, tabulate-set}
 use Rattle.state.specs.State.{slots, unknown, seen, slotAt, agrees, observed}
-use Rattle.state.specs.StateBytes.{turnFrom, slotFrom, slotIn, windowIn, decodeState, slotFilled}
+use Rattle.state.specs.StateBytes.{stateBytes, knownAt, positionAt, turnFrom, slotFrom, slotIn, windowIn, decodeState, slotFilled}
 use Rattle.state.specs.declared.state.Slot.{Slot}
 use Rattle.state.specs.declared.state.State.{State}
 
@@ -38,27 +38,27 @@ repeat-same s k p known a =
 
 module _ (b : List ℕ) (k p : ℕ) where
   abbrev anew : List ℕ
-  anew = set (set b (7 + 2 * k) 1) (8 + 2 * k) p
+  anew = set (set b (knownAt k) 1) (positionAt k) p
 
-  byte-kept : (j : ℕ) → (j ≡ 7 + 2 * k → ⊥) → (j ≡ 8 + 2 * k → ⊥) → getD anew j 0 ≡ getD b j 0
-  byte-kept j e f = getD-set-other (set b (7 + 2 * k) 1) (8 + 2 * k) j p 0 f ∙ getD-set-other b (7 + 2 * k) j 1 0 e
+  byte-kept : (j : ℕ) → (j ≡ knownAt k → ⊥) → (j ≡ positionAt k → ⊥) → getD anew j 0 ≡ getD b j 0
+  byte-kept j e f = getD-set-other (set b (knownAt k) 1) (positionAt k) j p 0 f ∙ getD-set-other b (knownAt k) j 1 0 e
 
   slot-kept : (j : ℕ) → (j ≡ k → ⊥) → slotIn anew j ≡ slotIn b j
   unfolding slotIn
   slot-kept j e =
       ap₂ slotFrom
-      (byte-kept (7 + 2 * j) (λ f. e (omega arith)) (λ f. omega arith))
-      (byte-kept (8 + 2 * j) (λ f. omega arith) (λ f. e (omega arith)))
+      (byte-kept (knownAt j) (λ f. e (omega arith)) (λ f. omega arith))
+      (byte-kept (positionAt j) (λ f. omega arith) (λ f. e (omega arith)))
 
-  module _ (long : length b ≡ 21) (h : k < slots) where
+  module _ (long : length b ≡ stateBytes) (h : k < slots) where
     slot-new : slotIn anew k ≡ seen p
     unfolding slotIn slotFrom
     slot-new =
-        let far : 8 + 2 * k < length (set b (7 + 2 * k) 1) = rw (length-set b (7 + 2 * k) 1) (omega arith) in
-        let one : getD anew (7 + 2 * k) 0 ≡ 1 =
-        getD-set-other (set b (7 + 2 * k) 1) (8 + 2 * k) (7 + 2 * k) p 0 (λ f. omega arith)
-        ∙ getD-set-same b (7 + 2 * k) 1 0 (omega arith) in
-        ap₂ slotFrom one (getD-set-same (set b (7 + 2 * k) 1) (8 + 2 * k) p 0 far)
+        let far : positionAt k < length (set b (knownAt k) 1) = rw (length-set b (knownAt k) 1) (omega arith) in
+        let one : getD anew (knownAt k) 0 ≡ 1 =
+        getD-set-other (set b (knownAt k) 1) (positionAt k) (knownAt k) p 0 (λ f. omega arith)
+        ∙ getD-set-same b (knownAt k) 1 0 (omega arith) in
+        ap₂ slotFrom one (getD-set-same (set b (knownAt k) 1) (positionAt k) p 0 far)
 
     decode-anew : decodeState anew
         ≡ record { turn = decodeState b .turn; last = decodeState b .last; window = set (decodeState b .window) k (seen p) }
@@ -96,8 +96,8 @@ filled-anew : (b : List ℕ) (k p : ℕ) → k < slots → slotIn b k .known ≡
 unfolding slotFilled either
 filled-anew b k p h e = rw (lt-leb slots k h, e)
 
--- for any 21 bytes: filling slot k with a position that agrees with it is observing
-pub decode-filled : (b : List ℕ) (k p : ℕ) → length b ≡ 21 → k < slots → agrees (slotAt (decodeState b) k) p ≡ true
+-- for any bytes of a state: filling slot k with a position that agrees with it is observing
+pub decode-filled : (b : List ℕ) (k p : ℕ) → length b ≡ stateBytes → k < slots → agrees (slotAt (decodeState b) k) p ≡ true
     → decodeState (slotFilled b k p)
     ≡ record { turn = decodeState b .turn; last = decodeState b .last; window = set (decodeState b .window) k (seen p) }
 unfolding slotAt
@@ -116,5 +116,5 @@ pub length-filled : (b : List ℕ) (k p : ℕ) → length (slotFilled b k p) ≡
 unfolding slotFilled
 length-filled b k p = ⊎-elim
     (λ (e : either (leb slots k) (slotIn b k .known) ≡ true). rw e)
-    (λ (e : either (leb slots k) (slotIn b k .known) ≡ false). rw e (length-set (set b (7 + 2 * k) 1) (8 + 2 * k) p ∙ length-set b (7 + 2 * k) 1))
+    (λ (e : either (leb slots k) (slotIn b k .known) ≡ false). rw e (length-set (set b (knownAt k) 1) (positionAt k) p ∙ length-set b (knownAt k) 1))
     (bool (either (leb slots k) (slotIn b k .known)))

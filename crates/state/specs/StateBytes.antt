@@ -10,6 +10,17 @@ use Rattle.state.specs.State.{slots, slotAt}
 use Rattle.state.specs.declared.state.Slot.{Slot}
 use Rattle.state.specs.declared.state.State.{State}
 
+-- the number of bytes
+abbrev pub stateBytes : ℕ
+stateBytes = 21
+
+-- where slot k says whether it is known, and where its position is
+abbrev pub knownAt : ℕ → ℕ
+knownAt k = 7 + 2 * k
+
+abbrev pub positionAt : ℕ → ℕ
+positionAt k = 8 + 2 * k
+
 unfoldable pub turnFrom : ℕ → ℕ → ℕ → ℕ → ℕ
 turnFrom a b c d = a + 256 * (b + 256 * (c + 256 * d))
 
@@ -18,7 +29,7 @@ slotFrom known position = record { known = not (eqb known 0); position = positio
 
 -- slot k
 unfoldable pub slotIn : List ℕ → ℕ → Slot
-slotIn b k = slotFrom (getD b (7 + 2 * k) 0) (getD b (8 + 2 * k) 0)
+slotIn b k = slotFrom (getD b (knownAt k) 0) (getD b (positionAt k) 0)
 
 unfoldable pub windowIn : List ℕ → List Slot
 windowIn b = tabulate (slotIn b) 0 slots
@@ -52,4 +63,4 @@ encodeState s =
 -- the bytes once position p was observed in slot k: only the slot's own two change, and none where it is known already (a repeat
 -- "changes nothing") or there is no such slot
 unfoldable pub slotFilled : List ℕ → ℕ → ℕ → List ℕ
-slotFilled b k p = cond (either (leb slots k) (slotIn b k .known)) b (set (set b (7 + 2 * k) 1) (8 + 2 * k) p)
+slotFilled b k p = cond (either (leb slots k) (slotIn b k .known)) b (set (set b (knownAt k) 1) (positionAt k) p)

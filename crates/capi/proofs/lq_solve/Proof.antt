@@ -8,5 +8,6 @@ pub lq-solve-spec : {M : Type 1} → statement M
 lq-solve-spec =
     tie.close
     (tie.spec (λ c κs. search needs) (λ c. search needs) (λ c. search needs) (λ c. search needs) (λ c. search needs)
-    (λ c. search needs) (λ c. (search solves, (search needs, (search needs, search solves)))) (λ c. search needs) (λ c. search needs) (λ c. (search solves, (search needs, (search needs, search solves))))
+    (λ c. search needs) (λ c. (search solves, (search needs, (search needs, search solves))))
+    (λ c. search needs) (λ c. search needs) (λ c. (search solves, (search needs, (search needs, search solves))))
     (λ c. search needs) (λ c. search needs) (λ c. (search solves, (search needs, (search needs, search solves)))))
