@@ -35,7 +35,8 @@ use Rattle.table.specs.declared.reading.TableReading.the-variants as table
 use Rattle.state.specs.State.{agrees, lastTurn, unknown, seen, opened, slotAt, heldOk, windowOk, stateOk, pushed, shifted, actedState}
 use Rattle.controller.specs.Controller.{observeWith, wordOf, nextAction, reported, actWith, openAnswer, observeAnswer, actAnswer}
 use Rattle.controller.specs.Accuracy.{observe, act, afterObserving, afterActing, reply}
-use Rattle.controller.specs.Meaning.{stepMeans, openReply, Usable}
+use Rattle.controller.specs.Meaning.{stepMeans, openReply}
+use Rattle.controller.specs.code.Usable.{Usable}
 use Rattle.controller.specs.declared.calls.Decision.{Decision}
 use Rattle.controller.specs.declared.calls.Decision.the-variants.{Accepted, Acted, Refused}
 use Rattle.controller.specs.declared.calls.Step.{Step}
