@@ -1,9 +1,49 @@
 /*
- * Loquatquoits: verified control under delay, for C callers.
+ * Loquatquoits: verified control under delay, for C and C++ callers.
  *
- * Build the library with `rt staticlib capi` and link target/staticlib/libcapi.a. Every function is total: any bytes and any lengths get
- * a result or a refusal by its number, 1 to 20 as in docs/DEMANDS.md, and a refusal alters nothing that was lent. 0 means accepted.
- * A pointer must be valid for the length that goes with it, and what is lent for writing must not overlap anything else that is lent.
+ * Build the library with `rt staticlib capi` and link target/staticlib/libcapi.a; besides that it needs memcpy and memset. Every function
+ * is total: any bytes and any lengths get a result or a refusal. It returns 0 where it accepts, and else the refusal's number:
+ *
+ *   reading a yard sheet
+ *    1  under 20 bytes, letters not S P C U, first offset not 20, a body not beginning where the last ended, or the last not ending with
+ *       the sheet
+ *    2  positions not 1 to 256, or a P byte over 3
+ *    3  S not 3 bytes, commands not 1 to 8, lag over 6, start absent or not own
+ *    4  C not in threes, not rising by from and then command, from not own, command not below the number of commands, or to not yard
+ *    5  U not in twos, over 4,096 moves, not rising by from and then to, from not yard, or to not own
+ *    6  a position without a move
+ *    7  more than LQ_MOST_PAIRS pairs
+ *   solving and making
+ *    8  the mask buffer or the rank buffer has fewer entries than there are pairs at the asked lag
+ *    9  the output is shorter than 19 + first words + 2 * pairs, all at the asked lag
+ *   reading a winning sheet
+ *   10  under 15 bytes, letters not S W T, or places wrong as in 1 with 15 for 20
+ *   11  S not 4 bytes, commands or lag out of range, start over the highest position, more than LQ_MOST_PAIRS pairs, a wrong length of W
+ *       or T, a W byte over 1, or a mask bit at the number of commands or above
+ *   12  no first word is good: no W byte is 1
+ *   the cabin (i is the state's turn, d the sheet's lag)
+ *   13  the needed report has not been heard
+ *   14  the needed report's pair allows no command: its mask is 0
+ *   15  the turn is 1,000,000
+ *   16  the reported position is over the highest position
+ *   17  the reported index is below the window
+ *   18  the reported index is over the window
+ *   19  that index was heard with another position
+ *   20  not a state: see the cabin below
+ *
+ * Checks are made in the order in which each function names them. A refusal alters nothing that was lent.
+ *
+ * Words. A pair is a position and a word of d / 2 commands (halves are rounded down), so there are positions * commands ^ (d / 2) pairs,
+ * numbered position by position and then by the word read in base `commands`, its oldest command leading. A first word has (d + 1) / 2
+ * commands, so there are commands ^ ((d + 1) / 2) first words. At turn i the window is the indices from 2 * i - d (never below 0) to
+ * 2 * i, and the needed report is that of index 2 * i - d, from the first turn on at which 2 * i is not below d; no report is needed
+ * before.
+ *
+ * Memory. The library has no static data and needs no initialisation: a function reads and writes only what is lent to it and its stack.
+ * So it is reentrant, and threads may call at the same time if none writes to what another was lent. (One sheet may be lent to all, a
+ * cabin's state to one at a time.) A pointer must be valid for the length that goes with it, and what is lent for writing must not
+ * overlap anything else that is lent. Measured on x86-64 over sheets with up to 16,384 pairs, lq_make goes 15,112 bytes deep into the
+ * stack, lq_solve 10,216, lq_read 1,160 and each other function fewer than 600: a stack of 20 KiB is enough for any.
  */
 #ifndef LOQUATQUOITS_H
 #define LOQUATQUOITS_H
@@ -11,62 +51,84 @@
 #include <stddef.h>
 #include <stdint.h>
 
-/* What lq_solve leaves in *losing where the asked lag wins. */
+/*
+ * Buffers of these sizes are enough for every sheet: entries of masks and of ranks, the bytes of W, and the bytes of output that refusal 9
+ * asks for. Each is reached: 32 positions, 8 commands and lag 6 have 16,384 pairs and 512 first words.
+ */
+#define LQ_MOST_PAIRS 16384
+#define LQ_MOST_FIRST_WORDS 512
+#define LQ_MOST_OUTPUT (19 + LQ_MOST_FIRST_WORDS + 2 * LQ_MOST_PAIRS)
+
+/* The bytes of a cabin's state. */
+#define LQ_STATE 21
+
+/* What lq_solve and lq_make leave in *losing where the asked lag wins. */
 #define LQ_WINS 255
 
+#ifdef __cplusplus
+extern "C" {
+#endif
+
 /*
- * Reads a yard sheet: refusals 1 to 7. Accepted: header holds start, number of commands and lag; places holds the offset and the length
- * of the bodies S, P, C and U, in this order.
+ * Reads a yard sheet: refusals 1 to 7. Accepted: header holds start, number of commands and lag. places holds the offset and the length
+ * of each body in the sheet: S at 0 and 1, P at 2 and 3, C at 4 and 5, U at 6 and 7.
  */
 uint8_t lq_read(const uint8_t *sheet, size_t sheet_len, uint8_t header[3], size_t places[8]);
 
 /*
- * Solves a yard sheet: refusals 1 to 7, then 8 where either buffer has fewer entries than pairs at the asked lag (positions times commands
- * to the power of half the lag, rounded down). Accepted: *losing is LQ_WINS, and both buffers hold the entries for the asked lag; or it
- * is the least lag at which no strategy wins, and they hold the entries for that lag. A mask has bit c set for each allowed command c;
- * a rank is the round in which the pair fell, 0 for none. Entries beyond are as they were.
+ * Solves a yard sheet: refusals 1 to 7, then 8. Accepted: *losing is LQ_WINS, and both buffers hold the entries for the asked lag, one for
+ * each pair by its number; or *losing is the least lag at which no strategy wins, and they hold the entries for that lag. A mask has
+ * bit c set for each allowed command c; a rank is the round in which the pair fell, 0 for none. Entries beyond are as they were.
  */
 uint8_t lq_solve(const uint8_t *sheet, size_t sheet_len, uint8_t *masks, size_t masks_len, uint16_t *ranks, size_t ranks_len,
                  uint8_t *losing);
 
 /*
- * Makes the sheet of a table: refusals 1 to 8 as in solving, then 9 where the output is shorter than 19 + first words + 2 * pairs, all at
- * the asked lag. Accepted: the buffers as in solving; *losing is LQ_WINS and out holds a winning sheet (S, W, T), or *losing is the losing
- * lag and out holds a losing sheet (S, R); *size is its length. Bytes beyond are as they were.
+ * Makes the sheet of a table: refusals 1 to 8 as in solving, then 9. Accepted: the buffers as in solving; *losing is LQ_WINS and out holds
+ * a winning sheet (S, W, T), or *losing is the losing lag and out holds a losing sheet (S, R); *size is its length. Bytes beyond are as
+ * they were.
  */
 uint8_t lq_make(const uint8_t *sheet, size_t sheet_len, uint8_t *masks, size_t masks_len, uint16_t *ranks, size_t ranks_len, uint8_t *out,
                 size_t out_len, size_t *size, uint8_t *losing);
 
 /*
- * Reads a winning sheet: refusals 10 to 12. Accepted: place holds the offset and the length of the T body, the masks, in the caller's sheet.
+ * Reads a winning sheet: refusals 10 to 12. Accepted: place holds the offset and the length of the T body, the masks by pair number, in the
+ * caller's sheet.
  */
 uint8_t lq_masks(const uint8_t *sheet, size_t sheet_len, size_t place[2]);
 
 /*
- * The cabin. Its state is LQ_STATE bytes that the caller lends; any bytes are a state, and one that cannot be a cabin's is refused with 20.
+ * The cabin. Its state is LQ_STATE bytes that the caller lends:
  *
  *   0 to 3       the turn, low byte first
  *   4 to 6       the commands of the last three turns, the newest first; what was not given is 0
- *   7 + 2k       for k from 0 to 6: 1 where a report of index 2 * turn - k was heard, else 0
+ *   7 + 2k       for k from 0 to 6: 0 where no report of index 2 * turn - k was heard; a cabin writes 1 where one was, and any other
+ *                byte that is not 0 counts as 1
  *   8 + 2k       its position
  *
- * A refusal leaves the state as it was. Every call reads the winning sheet and refuses 10 to 12 first.
+ * Any bytes are a state, but for three reasons to refuse them with 20: the turn is over 1,000,000; one of the newest d / 2 commands (of all
+ * that were given, before turn d / 2) is not below the number of commands; a position heard in the window is over the highest. So states
+ * that no cabin comes to are accepted too. Every call reads the winning sheet and refuses 10 to 12 first; a refusal leaves the state as
+ * it was.
  */
-#define LQ_STATE 21
 
-/* Opens a cabin: turn 0, no command given, no report heard. */
+/* Opens a cabin: refusals 10 to 12. Accepted: turn 0, no command given, no report heard. */
 uint8_t lq_open(const uint8_t *sheet, size_t sheet_len, uint8_t state[LQ_STATE]);
 
 /*
- * Hears a report, the position at an index of the play. After 10 to 12: 20 for the state; 16 for a position over the highest; 17 for an
- * index below the window; 18 for one over it; 19 for an index heard with another position.
+ * Hears a report, the position at an index of the play: refusals 10 to 12, 20, then 16 to 19. Accepted: the two bytes of the index hold the
+ * report, and no other byte changes; a repeat of a report, which is accepted, changes none at all.
  */
 uint8_t lq_observe(const uint8_t *sheet, size_t sheet_len, uint8_t state[LQ_STATE], size_t index, uint8_t position);
 
 /*
- * Gives the command of the state's turn. After 10 to 12: 20 for the state; 15 at turn 1,000,000; 13 where the one report that is needed is
- * unheard; 14 where its pair allows nothing. Accepted: *action is the command, and the state is a turn later.
+ * Gives the command of the state's turn: refusals 10 to 12, 20, then 15, 13 and 14. Accepted: *action is the command, the turn goes up by
+ * one, and reports below the new window are dropped. Reports fresher than the needed one have no say.
  */
 uint8_t lq_act(const uint8_t *sheet, size_t sheet_len, uint8_t state[LQ_STATE], uint8_t *action);
+
+#ifdef __cplusplus
+}
+#endif
 
 #endif

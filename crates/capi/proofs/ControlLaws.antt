@@ -1,102 +1,145 @@
--- The calls over a state's bytes, as the code of src/control.rt finds them. Assumes nothing.
-use Prim.Native.Nat.{ℕ}
-use mathlib.Core.Path.{_≡_, sym, _∙_, ap}
+-- What answer each case of the controller's decision is, over a state's bytes. Assumes nothing.
+use Prim.Native.Nat.{ℕ, _-_, _*_, _≤_}
+use mathlib.Core.Path.{_≡_, refl, sym, _∙_, ap}
 use mathlib.Core.List.{List}
+use native.Mathlib.Omega.{arith}
+use mir.Syntax.{w64}
+use mir.Val.{Fits}
 use borrow.Author.Needs.{needs}
+use borrow.Author.Tests.{leb-true}
+use Rattle.theory.specs.Answer.{Answer, refused, accepted}
+use Rattle.theory.proofs.Fold.{both-left}
+use Rattle.theory.proofs.Answer.{check-accepted, accepted-on}
 use Rattle.sheet.specs.Refusals.{numberOf}
 use Rattle.sheet.specs.declared.refusal.Refusal.{Refusal}
-use Rattle.state.specs.StateBytes.{decodeState, encodeState}
+use Rattle.table.specs.TableSheet.{tableAnswer}
+use Rattle.state.specs.State.{lastTurn, stateOk}
+use Rattle.state.specs.StateBytes.{decodeState, slotFilled}
 use Rattle.state.specs.declared.state.State.{State}
-use Rattle.controller.specs.Accuracy.{observe, act, Reply, reply}
+use Rattle.controller.specs.Controller.{Acted, observeWith, observeAnswer, actAnswer}
+use Rattle.controller.specs.Accuracy.{Response, accepts, acts, refuses, observe, act, Reply, afterObserving, afterActing, reply}
 use Rattle.controller.specs.Meaning.{responseOf, stepMeans}
-use Rattle.controller.specs.declared.calls.Decision.the-variants.{Accepted, Acted, Refused}
+use Rattle.controller.specs.declared.calls.Decision.{Decision}
+use Rattle.controller.specs.declared.calls.Decision.the-variants.{Accepted, Refused}
+use Rattle.controller.specs.declared.calls.Decision.the-variants as decisions
 use Rattle.controller.specs.declared.calls.Step.{Step}
-use Rattle.capi.specs.Controlled.{responseNumber, bytesFor, bytesAfter, actionAfter, byteReply}
+use Rattle.capi.specs.Exported.{byAnswer}
 
--- a step that was made, and its bytes: n the number, b the bytes before
+-- the answer that a reply came from; the last case of each is never one
 
-module _ (r : Step) (b : List ℕ) where
-  module _ (why : Refusal) (n : ℕ) (e : r .decision ≡ Refused why) (f : n ≡ numberOf why) where
-    pub refused-number : n ≡ responseNumber (responseOf (r .decision))
-    unfolding responseNumber
-    refused-number = f ∙ rw e
+abbrev answerIn : Response → State → Answer State
+answerIn accepts s = accepted s
+answerIn (refuses n) s = refused n
+answerIn (acts c) s = refused 0
 
-    pub refused-bytes : b ≡ bytesAfter (stepMeans r) b
-    unfolding bytesAfter bytesFor
-    refused-bytes = rw e
+abbrev actedIn : Response → State → Answer Acted
+actedIn (acts c) s = accepted (record { action = c; state = s })
+actedIn (refuses n) s = refused n
+actedIn accepts s = refused 0
 
-  module _ (u : List ℕ) (f : u ≡ encodeState (r .state)) where
-    module _ (e : r .decision ≡ Accepted) where
-      pub accepted-number : 0 ≡ responseNumber (responseOf (r .decision))
-      unfolding responseNumber
-      accepted-number = rw e
+answer-in : (s : State) (a : Answer State) → answerIn (afterObserving s a .response) (afterObserving s a .state) ≡ a
+answer-in s (refused n) = refl
+answer-in s (accepted x) = refl
 
-      pub accepted-bytes : u ≡ bytesAfter (stepMeans r) b
-      unfolding bytesAfter bytesFor
-      accepted-bytes = f ∙ rw e
+acted-in : (s : State) (a : Answer Acted) → actedIn (afterActing s a .response) (afterActing s a .state) ≡ a
+acted-in s (refused n) = refl
+acted-in s (accepted x) = refl
 
-    module _ (a : ℕ) (e : r .decision ≡ Acted a) where
-      pub acted-number : 0 ≡ responseNumber (responseOf (r .decision))
-      unfolding responseNumber
-      acted-number = rw e
+-- what a C caller gets, by the cases of the decision; a is the answer
 
-      pub acted-bytes : u ≡ bytesAfter (stepMeans r) b
-      unfolding bytesAfter bytesFor
-      acted-bytes = f ∙ rw e
+module _ {B : Type 0} (v : B) (g : ℕ → B) (r : Step) where
+  module _ (f : State → B) (s : State) (a : Answer State) (told : stepMeans r ≡ afterObserving s a) where
+    by-reply : (d : Decision) → r .decision ≡ d → byAnswer g f (answerIn (responseOf d) (r .state)) ≡ byAnswer g f a
+    by-reply d e =
+        ap (byAnswer g f)
+        (ap (λ d. answerIn (responseOf d) (r .state)) (sym e)
+        ∙ ap (λ (q : Reply). answerIn (q .response) (q .state)) told
+        ∙ answer-in s a)
 
-pub ruleset concludes = (needs, refused-number, refused-bytes, accepted-number, accepted-bytes, acted-number, acted-bytes)
+    pub open-refused : (why : Refusal) (n : ℕ) → r .decision ≡ Refused why → n ≡ numberOf why → v ≡ g n → v ≡ byAnswer g f a
+    unfolding byAnswer
+    open-refused why n e h q = q ∙ ap g h ∙ by-reply (Refused why) e
 
--- the calls: r the step, t the sheet, b the bytes before, u after
+    pub open-accepted : r .decision ≡ Accepted → v ≡ f (r .state) → v ≡ byAnswer g f a
+    unfolding byAnswer
+    open-accepted e q = q ∙ by-reply Accepted e
 
-module _ (r : Step) (b u : List ℕ) (n : ℕ) (number : n ≡ responseNumber (responseOf (r .decision))) (bytes : u ≡ bytesAfter (stepMeans r) b) where
-  module _ (a : Reply) (told : stepMeans r ≡ a) where
-    pub reply-number : n ≡ responseNumber (a .response)
-    reply-number = number ∙ ap (λ (a : Reply). responseNumber (a .response)) told
+    pub open-never : (c : ℕ) → r .decision ≡ decisions.Acted c → v ≡ g 0 → v ≡ byAnswer g f a
+    unfolding byAnswer
+    open-never c e q = q ∙ by-reply (decisions.Acted c) e
 
-    pub reply-bytes : u ≡ bytesAfter a b
-    reply-bytes = bytes ∙ ap (λ (a : Reply). bytesAfter a b) told
+  -- the state s is what the bytes b mean
 
-  module _ (t : List ℕ) (s : State) (decoded : s ≡ decodeState b) where
-    module _ (k p : ℕ) (told : stepMeans r ≡ reply t s (observe k p)) where
-      indices : stepMeans r ≡ byteReply t b (observe k p)
-      indices = told ∙ ap (λ (s : State). reply t s (observe k p)) decoded
+  module _ (t b : List ℕ) (s : State) (decoded : s ≡ decodeState b) where
+    module _ (f : State → B) (k p : ℕ) (told : stepMeans r ≡ reply t s (observe k p)) where
+      abbrev observation : Answer State
+      observation = observeAnswer t (decodeState b) k p
 
-      pub observed-number : n ≡ responseNumber (byteReply t b (observe k p) .response)
-      observed-number = reply-number (byteReply t b (observe k p)) indices
+      observe-told : stepMeans r ≡ reply t (decodeState b) (observe k p)
+      observe-told = told ∙ ap (λ (s : State). reply t s (observe k p)) decoded
 
-      pub observed-bytes : u ≡ bytesAfter (byteReply t b (observe k p)) b
-      observed-bytes = reply-bytes (byteReply t b (observe k p)) indices
+      pub observe-refused : (why : Refusal) (n : ℕ) → r .decision ≡ Refused why → n ≡ numberOf why → v ≡ g n → v ≡ byAnswer g f observation
+      observe-refused = open-refused f (decodeState b) observation observe-told
 
-    module _ (told : stepMeans r ≡ reply t s act) where
-      asked : stepMeans r ≡ byteReply t b act
-      asked = told ∙ ap (λ (s : State). reply t s act) decoded
+      pub observe-accepted : r .decision ≡ Accepted → v ≡ f (r .state) → v ≡ byAnswer g f observation
+      observe-accepted = open-accepted f (decodeState b) observation observe-told
 
-      pub act-number : n ≡ responseNumber (byteReply t b act .response)
-      act-number = reply-number (byteReply t b act) asked
+      pub observe-never : (c : ℕ) → r .decision ≡ decisions.Acted c → v ≡ g 0 → v ≡ byAnswer g f observation
+      observe-never = open-never f (decodeState b) observation observe-told
 
-      pub act-bytes : u ≡ bytesAfter (byteReply t b act) b
-      act-bytes = reply-bytes (byteReply t b act) asked
+    module _ (f : Acted → B) (told : stepMeans r ≡ reply t s act) where
+      by-act : (d : Decision) → r .decision ≡ d → byAnswer g f (actedIn (responseOf d) (r .state)) ≡ byAnswer g f (actAnswer t (decodeState b))
+      by-act d e =
+          ap (byAnswer g f)
+          (ap (λ d. actedIn (responseOf d) (r .state)) (sym e)
+          ∙ ap (λ (q : Reply). actedIn (q .response) (q .state)) (told ∙ ap (λ (s : State). reply t s act) decoded)
+          ∙ acted-in (decodeState b) (actAnswer t (decodeState b)))
 
--- what stands in the caller's action after asking, x before it
+      pub act-refused : (why : Refusal) (n : ℕ) → r .decision ≡ Refused why → n ≡ numberOf why → v ≡ g n
+          → v ≡ byAnswer g f (actAnswer t (decodeState b))
+      unfolding byAnswer
+      act-refused why n e h q = q ∙ ap g h ∙ by-act (Refused why) e
 
-module _ (r : Step) (t b : List ℕ) (s : State) (x : ℕ) (decoded : s ≡ decodeState b) (told : stepMeans r ≡ reply t s act) where
-  response-is : byteReply t b act .response ≡ responseOf (r .decision)
-  response-is = ap (λ (s : State). reply t s act .response) (sym decoded) ∙ ap (λ (a : Reply). a .response) (sym told)
+      pub act-acted : (c : ℕ) → r .decision ≡ decisions.Acted c → v ≡ f (record { action = c; state = r .state })
+          → v ≡ byAnswer g f (actAnswer t (decodeState b))
+      unfolding byAnswer
+      act-acted c e q = q ∙ by-act (decisions.Acted c) e
 
-  pub action-acted : (a : ℕ) → r .decision ≡ Acted a → a ≡ actionAfter (byteReply t b act .response) x
-  unfolding actionAfter
-  action-acted a e = rw (response-is, e)
+      pub act-never : r .decision ≡ Accepted → v ≡ g 0 → v ≡ byAnswer g f (actAnswer t (decodeState b))
+      unfolding byAnswer
+      act-never e q = q ∙ by-act Accepted e
 
-  pub action-none : r .decision ≡ Accepted → x ≡ actionAfter (byteReply t b act .response) x
-  unfolding actionAfter
-  action-none e = rw (response-is, e)
+-- what an accepted observation says of its index: the slot is one of the window
 
-  pub action-refused : (why : Refusal) → r .decision ≡ Refused why → x ≡ actionAfter (byteReply t b act .response) x
-  unfolding actionAfter
-  action-refused why e = rw (response-is, e)
+module _ (t : List ℕ) (s : State) (k p : ℕ) (r : Step) (told : stepMeans r ≡ reply t s (observe k p)) (e : r .decision ≡ Accepted) where
+  is-accepted : observeAnswer t s k p ≡ accepted (r .state)
+  is-accepted =
+      sym (answer-in s (observeAnswer t s k p))
+      ∙ ap (λ (q : Reply). answerIn (q .response) (q .state)) (sym told)
+      ∙ ap (λ d. answerIn (responseOf d) (r .state)) e
 
-pub ruleset opens = (needs, reply-number, reply-bytes)
+  facts : (s .turn ≤ lastTurn) × (k ≤ 2 * s .turn)
+  unfolding observeAnswer observeWith stateOk
+  facts =
+      let a = accepted-on (tableAnswer t) _ is-accepted in
+      let b = check-accepted _ 20 _ (a .2) in
+      let c = check-accepted _ 16 _ (b .1) in
+      let d = check-accepted _ 17 _ (c .1) in
+      let f = check-accepted _ 18 _ (d .1) in
+      (leb-true (s .turn) lastTurn (both-left _ _ (b .0)), leb-true k (2 * s .turn) (f .0))
 
-pub ruleset observes = (needs, observed-number, observed-bytes)
+  pub newest-fits : Fits w64 (2 * s .turn)
+  newest-fits = record { fits = omega (arith, facts .0) }
 
-pub ruleset acting = (needs, act-number, act-bytes, action-acted, action-none, action-refused)
+  pub index-within : k ≤ 2 * s .turn
+  index-within = facts .1
+
+pub filled-is : (b u : List ℕ) (s : State) (k p : ℕ) → s ≡ decodeState b → u ≡ slotFilled b (2 * s .turn - k) p
+    → u ≡ slotFilled b (2 * decodeState b .turn - k) p
+filled-is b u s k p decoded e = e ∙ ap (λ (s : State). slotFilled b (2 * s .turn - k) p) decoded
+
+pub ruleset opens = (needs, open-refused, open-accepted, open-never)
+
+pub ruleset observes = (needs, observe-refused, observe-accepted, observe-never, newest-fits, index-within, filled-is)
+
+pub ruleset acts-laws = (needs, act-refused, act-acted, act-never)

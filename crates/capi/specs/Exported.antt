@@ -6,54 +6,55 @@ use Rattle.theory.specs.Answer.{Answer, refused, accepted}
 use Rattle.theory.specs.Delay.{Verdict, wins, losing}
 use Rattle.sheet.specs.Limits.{width}
 use Rattle.sheet.specs.Form.{placedAt}
-use Rattle.sheet.specs.declared.reading.Layout.{Layout}
-use Rattle.solver.specs.Solving.{Solved}
-use Rattle.table.specs.TableSheet.{TableSheet}
-use Rattle.maker.specs.Making.{Measured}
+use Rattle.sheet.specs.Reading.{readAnswer}
+use Rattle.solver.specs.Solving.{solving}
+use Rattle.table.specs.TableSheet.{tableAnswer}
+use Rattle.maker.specs.Making.{Measured, measured, making}
+
+-- by an answer: g of a refusal's number, f of an accepted value
+unfoldable pub byAnswer : {A B : Type 0} → (ℕ → B) → (A → B) → Answer A → B
+byAnswer g f (refused n) = g n
+byAnswer g f (accepted x) = f x
 
 -- the number of a refusal, 0 where the answer is accepted
-unfoldable pub numberFor : {A : Type 0} → Answer A → ℕ
-numberFor (refused n) = n
-numberFor (accepted a) = 0
+abbrev pub numberFor : {A : Type 0} → Answer A → ℕ
+numberFor a = byAnswer (λ n. n) (λ x. 0) a
 
--- start, number of actions, delay
-unfoldable pub headerAfter : Answer Layout → List ℕ → List ℕ
-headerAfter (refused n) header = header
-headerAfter (accepted l) header = l .start ∷ l .actions ∷ l .delay ∷ []
+-- what is in a lent place after an answer: what an accepted value puts there, and what was there before where it is a refusal
+abbrev pub written : {A B : Type 0} → (A → B) → Answer A → B → B
+written f a before = byAnswer (λ n. before) f a
+
+-- reading a game sheet: start, number of actions, delay
+abbrev pub headerAfter : List ℕ → List ℕ → List ℕ
+headerAfter s header = written (λ l. l .start ∷ l .actions ∷ l .delay ∷ []) (readAnswer s) header
 
 -- offset and length of S, P, C and U
-unfoldable pub placesAfter : Answer Layout → List ℕ → List ℕ
-placesAfter (refused n) places = places
-placesAfter (accepted l) places =
-    l .header .at
-    ∷ l .header .size
-    ∷ l .positions .at
-    ∷ l .positions .size
-    ∷ l .targets .at
-    ∷ l .targets .size
-    ∷ l .moves .at
-    ∷ l .moves .size
-    ∷ []
+abbrev pub placesAfter : List ℕ → List ℕ → List ℕ
+placesAfter s places =
+    written
+    (λ l.
+    l .header .at ∷ l .header .size ∷ l .positions .at ∷ l .positions .size
+    ∷ l .targets .at ∷ l .targets .size ∷ l .moves .at ∷ l .moves .size ∷ [])
+    (readAnswer s) places
 
 -- the losing delay; 255 where the asked one wins
-unfoldable pub losingNumber : Verdict → ℕ
+abbrev pub losingNumber : Verdict → ℕ
 losingNumber wins = 255
 losingNumber (losing m) = m
 
-unfoldable pub losingAfter : Answer Solved → ℕ → ℕ
-losingAfter (refused n) before = before
-losingAfter (accepted a) before = losingNumber (a .verdict)
+abbrev pub losingAfter : List ℕ → List ℕ → List ℕ → ℕ → ℕ
+losingAfter s masks ranks before = written (λ a. losingNumber (a .verdict)) (solving s masks ranks) before
 
--- the same of making, and the made sheet's length
-unfoldable pub madeLosing : Answer Measured → ℕ → ℕ
-madeLosing (refused n) before = before
-madeLosing (accepted a) before = losingNumber (a .verdict)
+-- making: the answer with the made sheet's length, what is losing and how long the sheet is
+abbrev pub madeAnswer : List ℕ → List ℕ → List ℕ → List ℕ → Answer Measured
+madeAnswer s masks ranks out = measured (making s masks ranks out)
 
-unfoldable pub sizeAfter : Answer Measured → ℕ → ℕ
-sizeAfter (refused n) before = before
-sizeAfter (accepted a) before = a .size
+abbrev pub madeLosing : List ℕ → List ℕ → List ℕ → List ℕ → ℕ → ℕ
+madeLosing s masks ranks out before = written (λ a. losingNumber (a .verdict)) (madeAnswer s masks ranks out) before
 
--- offset and length of the T body of the table sheet s
-unfoldable pub placeAfter : List ℕ → Answer TableSheet → List ℕ → List ℕ
-placeAfter s (refused n) place = place
-placeAfter s (accepted x) place = placedAt width s 2 .at ∷ placedAt width s 2 .size ∷ []
+abbrev pub madeSize : List ℕ → List ℕ → List ℕ → List ℕ → ℕ → ℕ
+madeSize s masks ranks out before = written (λ a. a .size) (madeAnswer s masks ranks out) before
+
+-- reading a table sheet: offset and length of the T body
+abbrev pub placeAfter : List ℕ → List ℕ → List ℕ
+placeAfter s place = written (λ x. placedAt width s 2 .at ∷ placedAt width s 2 .size ∷ []) (tableAnswer s) place

@@ -1,22 +1,24 @@
-// Opening, hearing a report and giving a command for C and Rust callers, who keep the state as bytes. Every function takes any bytes.
+// Opening, observing and acting for C and Rust callers, who keep the state as bytes. Every function takes any bytes.
 use controller::calls::Decision;
-use controller::calls::Step;
 use controller::calls::act;
 use controller::calls::observe;
 use controller::calls::opening;
 use sheet::refusal::number;
+use state::bytes::STATE_BYTES;
 use state::bytes::decode;
 use state::bytes::encode;
+use state::bytes::fill_slot;
 ghost use mathlib.Core.Path.{_≡_};
-ghost use Rattle.controller.specs.Accuracy.{observe, act};
-ghost use Rattle.controller.specs.Meaning.{stepMeans, openReply};
-ghost use Rattle.capi.specs.Controlled.{responseNumber, bytesAfter, actionAfter, byteReply};
+ghost use Rattle.controller.specs.Controller.{openAnswer};
+ghost use Rattle.capi.specs.Exported.{numberFor};
+ghost use Rattle.capi.specs.Controlled.{observing, acting, bytesOpened, bytesObserved, bytesActed, actionAfter};
 
-// The answer's number; the bytes of the next state, where nothing was refused.
-fn conclude(step: Step, state: &mut [u8; 21]) -> u8
-    ensures number { λ r. ⌜ r ≡ responseNumber (stepMeans step .response) ⌝ }
-    ensures state { λ r. ⌜ now (state .exit) ≡ bytesAfter (stepMeans step) (now (state .entry)) ⌝ }
+#[no_mangle]
+pub extern "C" fn lq_open(sheet: &[u8], state: &mut [u8; STATE_BYTES]) -> u8
+    ensures number { λ r. ⌜ r ≡ numberFor (openAnswer (now (sheet .entry))) ⌝ }
+    ensures state { λ r. ⌜ now (state .exit) ≡ bytesOpened (now (sheet .entry)) (now (state .entry)) ⌝ }
 {
+    let step = opening(sheet);
     let decision = step.decision;
     match decision {
         Decision::Refused(reason) => number(reason),
@@ -24,45 +26,49 @@ fn conclude(step: Step, state: &mut [u8; 21]) -> u8
             *state = encode(step.state);
             0
         }
-        Decision::Acted(_) => {
-            *state = encode(step.state);
-            0
-        }
+        Decision::Acted(_) => 0, // opening takes no action
     }
 }
 
 #[no_mangle]
-pub extern "C" fn lq_open(sheet: &[u8], state: &mut [u8; 21]) -> u8
-    ensures number { λ r. ⌜ r ≡ responseNumber (openReply (now (sheet .entry)) .response) ⌝ }
-    ensures state { λ r. ⌜ now (state .exit) ≡ bytesAfter (openReply (now (sheet .entry))) (now (state .entry)) ⌝ }
+pub extern "C" fn lq_observe(
+    sheet: &[u8],
+    state: &mut [u8; STATE_BYTES],
+    index: usize,
+    position: u8,
+) -> u8
+    ensures number { λ r. ⌜ r ≡ numberFor (observing (now (sheet .entry)) (now (state .entry)) index position) ⌝ }
+    ensures state { λ r. ⌜ now (state .exit) ≡ bytesObserved (now (sheet .entry)) (now (state .entry)) index position ⌝ }
 {
-    let step = opening(sheet);
-    conclude(step, state)
+    let before = decode(state);
+    let turn = before.turn;
+    let step = observe(sheet, before, index, position);
+    let decision = step.decision;
+    match decision {
+        Decision::Refused(reason) => number(reason),
+        Decision::Accepted => {
+            fill_slot(state, 2 * turn - index, position);
+            0
+        }
+        Decision::Acted(_) => 0, // observing takes no action
+    }
 }
 
 #[no_mangle]
-pub extern "C" fn lq_observe(sheet: &[u8], state: &mut [u8; 21], index: usize, position: u8) -> u8
-    ensures number { λ r. ⌜ r ≡ responseNumber (byteReply (now (sheet .entry)) (now (state .entry)) (observe index position) .response) ⌝ }
-    ensures state { λ r. ⌜ now (state .exit) ≡ bytesAfter (byteReply (now (sheet .entry)) (now (state .entry)) (observe index position)) (now (state .entry)) ⌝ }
-{
-    let step = observe(sheet, decode(state), index, position);
-    conclude(step, state)
-}
-
-#[no_mangle]
-pub extern "C" fn lq_act(sheet: &[u8], state: &mut [u8; 21], action: &mut u8) -> u8
-    ensures number { λ r. ⌜ r ≡ responseNumber (byteReply (now (sheet .entry)) (now (state .entry)) act .response) ⌝ }
-    ensures state { λ r. ⌜ now (state .exit) ≡ bytesAfter (byteReply (now (sheet .entry)) (now (state .entry)) act) (now (state .entry)) ⌝ }
-    ensures action { λ r. ⌜ now (action .exit) ≡ actionAfter (byteReply (now (sheet .entry)) (now (state .entry)) act .response) (now (action .entry)) ⌝ }
+pub extern "C" fn lq_act(sheet: &[u8], state: &mut [u8; STATE_BYTES], action: &mut u8) -> u8
+    ensures number { λ r. ⌜ r ≡ numberFor (acting (now (sheet .entry)) (now (state .entry))) ⌝ }
+    ensures state { λ r. ⌜ now (state .exit) ≡ bytesActed (now (sheet .entry)) (now (state .entry)) ⌝ }
+    ensures action { λ r. ⌜ now (action .exit) ≡ actionAfter (now (sheet .entry)) (now (state .entry)) (now (action .entry)) ⌝ }
 {
     let step = act(sheet, decode(state));
     let decision = step.decision;
     match decision {
+        Decision::Refused(reason) => number(reason),
         Decision::Acted(a) => {
             *action = a;
-            conclude(step, state)
+            *state = encode(step.state);
+            0
         }
-        Decision::Accepted => conclude(step, state),
-        Decision::Refused(_) => conclude(step, state),
+        Decision::Accepted => 0, // acting takes an action
     }
 }

@@ -1,6 +1,6 @@
 // Reading and solving for C and Rust callers (include/loquatquoits.h). Every function takes any bytes and any lengths.
 pub mod tables; // making sheets, and the masks of a table sheet
-pub mod control; // opening, hearing, giving
+pub mod control; // opening, observing and acting
 
 use sheet::reading::Reading;
 use sheet::reading::read;
@@ -15,8 +15,8 @@ ghost use Rattle.capi.specs.Exported.{numberFor, headerAfter, placesAfte
 #[no_mangle]
 pub extern "C" fn lq_read(sheet: &[u8], header: &mut [u8; 3], places: &mut [usize; 8]) -> u8
     ensures number { λ r. ⌜ r ≡ numberFor (readAnswer (now (sheet .entry))) ⌝ }
-    ensures header { λ r. ⌜ now (header .exit) ≡ headerAfter (readAnswer (now (sheet .entry))) (now (header .entry)) ⌝ }
-    ensures places { λ r. ⌜ now (places .exit) ≡ placesAfter (readAnswer (now (sheet .entry))) (now (places .entry)) ⌝ }
+    ensures header { λ r. ⌜ now (header .exit) ≡ headerAfter (now (sheet .entry)) (now (header .entry)) ⌝ }
+    ensures places { λ r. ⌜ now (places .exit) ≡ placesAfter (now (sheet .entry)) (now (places .entry)) ⌝ }
 {
     let reading = read(sheet);
     let Reading::Accepted(l) = reading else {
@@ -41,7 +41,8 @@ pub extern "C" fn lq_solve(sheet: &[u8], masks: &mut [u8], ranks: &mut [u16], lo
     ensures number { λ r. ⌜ r ≡ numberFor (solving (now (sheet .entry)) (now (masks .entry)) (now (ranks .entry))) ⌝ }
     ensures masks { λ r. ⌜ now (masks .exit) ≡ masksSolved (now (sheet .entry)) (now (masks .entry)) (now (ranks .entry)) ⌝ }
     ensures ranks { λ r. ⌜ now (ranks .exit) ≡ ranksSolved (now (sheet .entry)) (now (masks .entry)) (now (ranks .entry)) ⌝ }
-    ensures losing { λ r. ⌜ now (losing .exit) ≡ losingAfter (solving (now (sheet .entry)) (now (masks .entry)) (now (ranks .entry))) (now (losing .entry)) ⌝ }
+    ensures losing { λ r. ⌜ now (losing .exit)
+        ≡ losingAfter (now (sheet .entry)) (now (masks .entry)) (now (ranks .entry)) (now (losing .entry)) ⌝ }
 {
     let solution = solve(sheet, masks, ranks);
     match solution {

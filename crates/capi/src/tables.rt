@@ -6,10 +6,9 @@ use sheet::refusal::number;
 use table::reading::TableReading;
 use table::reading::read;
 ghost use mathlib.Core.Path.{_≡_};
-ghost use Rattle.solver.specs.Solving.{};
-ghost use Rattle.maker.specs.Making.{measured, making, masksMade, ranksMade, outputMade};
+ghost use Rattle.maker.specs.Making.{masksMade, ranksMade, outputMade};
 ghost use Rattle.table.specs.TableSheet.{tableAnswer};
-ghost use Rattle.capi.specs.Exported.{numberFor, sizeAfter, madeLosing, placeAfter};
+ghost use Rattle.capi.specs.Exported.{numberFor, madeAnswer, madeSize, madeLosing, placeAfter};
 
 #[no_mangle]
 pub extern "C" fn lq_make(
@@ -20,12 +19,18 @@ pub extern "C" fn lq_make(
     size: &mut usize,
     losing: &mut u8,
 ) -> u8
-    ensures number { λ r. ⌜ r ≡ numberFor (measured (making (now (sheet .entry)) (now (masks .entry)) (now (ranks .entry)) (now (out .entry)))) ⌝ }
-    ensures masks { λ r. ⌜ now (masks .exit) ≡ masksMade (now (sheet .entry)) (now (masks .entry)) (now (ranks .entry)) (now (out .entry)) ⌝ }
-    ensures ranks { λ r. ⌜ now (ranks .exit) ≡ ranksMade (now (sheet .entry)) (now (masks .entry)) (now (ranks .entry)) (now (out .entry)) ⌝ }
-    ensures output { λ r. ⌜ now (out .exit) ≡ outputMade (now (sheet .entry)) (now (masks .entry)) (now (ranks .entry)) (now (out .entry)) ⌝ }
-    ensures size { λ r. ⌜ now (size .exit) ≡ sizeAfter (measured (making (now (sheet .entry)) (now (masks .entry)) (now (ranks .entry)) (now (out .entry)))) (now (size .entry)) ⌝ }
-    ensures losing { λ r. ⌜ now (losing .exit) ≡ madeLosing (measured (making (now (sheet .entry)) (now (masks .entry)) (now (ranks .entry)) (now (out .entry)))) (now (losing .entry)) ⌝ }
+    ensures number { λ r. ⌜ r
+        ≡ numberFor (madeAnswer (now (sheet .entry)) (now (masks .entry)) (now (ranks .entry)) (now (out .entry))) ⌝ }
+    ensures masks { λ r. ⌜ now (masks .exit)
+        ≡ masksMade (now (sheet .entry)) (now (masks .entry)) (now (ranks .entry)) (now (out .entry)) ⌝ }
+    ensures ranks { λ r. ⌜ now (ranks .exit)
+        ≡ ranksMade (now (sheet .entry)) (now (masks .entry)) (now (ranks .entry)) (now (out .entry)) ⌝ }
+    ensures output { λ r. ⌜ now (out .exit)
+        ≡ outputMade (now (sheet .entry)) (now (masks .entry)) (now (ranks .entry)) (now (out .entry)) ⌝ }
+    ensures size { λ r. ⌜ now (size .exit)
+        ≡ madeSize (now (sheet .entry)) (now (masks .entry)) (now (ranks .entry)) (now (out .entry)) (now (size .entry)) ⌝ }
+    ensures losing { λ r. ⌜ now (losing .exit)
+        ≡ madeLosing (now (sheet .entry)) (now (masks .entry)) (now (ranks .entry)) (now (out .entry)) (now (losing .entry)) ⌝ }
 {
     let making = make(sheet, masks, ranks, out);
     match making {
@@ -46,7 +51,7 @@ pub extern "C" fn lq_make(
 #[no_mangle]
 pub extern "C" fn lq_masks(sheet: &[u8], place: &mut [usize; 2]) -> u8
     ensures number { λ r. ⌜ r ≡ numberFor (tableAnswer (now (sheet .entry))) ⌝ }
-    ensures place { λ r. ⌜ now (place .exit) ≡ placeAfter (now (sheet .entry)) (tableAnswer (now (sheet .entry))) (now (place .entry)) ⌝ }
+    ensures place { λ r. ⌜ now (place .exit) ≡ placeAfter (now (sheet .entry)) (now (place .entry)) ⌝ }
 {
     let reading = read(sheet);
     if let TableReading::Refused(reason) = reading {

@@ -20,8 +20,10 @@ use Rattle.theory.specs.Table.{Table, flagged}
 use Rattle.theory.specs.Exact.{leastFlagged}
 use Rattle.theory.proofs.Fold.{first, first-suc, first-unique, all-none, all-again, all-at, all-fails}
 use Rattle.theory.proofs.Words.{digit-shorter}
+use Rattle.sheet.specs.Limits.{mostActions, mostDelay, mostPower}
 use Rattle.sheet.specs.code.Steps.{powerTo}
 use Rattle.sheet.proofs.SizeLaws.{power-bound, small-power}
+use Rattle.state.specs.State.{mostHeld}
 use Rattle.controller.specs.Controller.{wordOf}
 
 -- the least first word
@@ -112,7 +114,7 @@ module _ (A n : ℕ) (last : List ℕ) where
   unfolding wordOf
   word-start = ap (wordOf A) (sym (drop-of-length-le (take n last) {i = n} (length-small n last)))
 
-  pub word-again : (k w b x : ℕ) → length last ≡ 3 → n ≤ 3 → 0 < k → k ≤ n → w ≡ wordOf A (drop k (take n last)) → b ≡ A
+  pub word-again : (k w b x : ℕ) → length last ≡ mostHeld → n ≤ mostHeld → 0 < k → k ≤ n → w ≡ wordOf A (drop k (take n last)) → b ≡ A
       → x ≡ getD last (k - 1) 0 → w * b + x ≡ wordOf A (drop (k - 1) (take n last))
   unfolding wordOf
   word-again k w b x l h g j e q p =
@@ -136,40 +138,40 @@ bound-again n k w b x y A h g l e s i t =
     let m : w * b ≤ (256 ^ (n - k) - 1) * 255 = mul-le-mul (omega arith) (omega arith) in
     rw z (omega arith)
 
-pub bound-end : (n k w : ℕ) → n ≤ 3 → w < 256 ^ (n - k) → w < 256 ^ 3
+pub bound-end : (n k w : ℕ) → n ≤ mostHeld → w < 256 ^ (n - k) → w < 256 ^ mostHeld
 bound-end n k w h l =
-    let z : n - k ≤ 3 = omega arith in
+    let z : n - k ≤ mostHeld = omega arith in
     lt-of-lt-of-le l (pow-le-pow-right (omega arith) z)
 
-product-small : (n k w b A : ℕ) → n ≤ 3 → w < 256 ^ (n - k) → b ≡ A → A < 256 → w * b ≤ 16777216 * 256
+product-small : (n k w b A : ℕ) → n ≤ mostHeld → w < 256 ^ (n - k) → b ≡ A → A < 256 → w * b ≤ 16777216 * 256
 product-small n k w b A h l e s = mul-le-mul {n₂ = 16777216} {m₂ = 256} (omega (arith, bound-end n k w h l)) (omega arith)
 
-pub product-fits : (n k w b A : ℕ) → n ≤ 3 → w < 256 ^ (n - k) → b ≡ A → A < 256 → Fits w64 (w * b)
+pub product-fits : (n k w b A : ℕ) → n ≤ mostHeld → w < 256 ^ (n - k) → b ≡ A → A < 256 → Fits w64 (w * b)
 product-fits n k w b A h l e s = record { fits = omega (arith, product-small n k w b A h l e s) }
 
-pub word-fits : (n k w b x y A : ℕ) → n ≤ 3 → w < 256 ^ (n - k) → b ≡ A → A < 256 → x ≡ y → y < 256 → Fits w64 (w * b + x)
+pub word-fits : (n k w b x y A : ℕ) → n ≤ mostHeld → w < 256 ^ (n - k) → b ≡ A → A < 256 → x ≡ y → y < 256 → Fits w64 (w * b + x)
 word-fits n k w b x y A h l e s q t = record { fits = omega (arith, product-small n k w b A h l e s) }
 
 pub ruleset word-laws = (needs, word-start, word-again, word-end, bound-start, bound-again, bound-end, product-fits, word-fits)
 
 -- the mask of a node; u, e are bytes as numbers, v a power, w a word
 
-pub mask-is : (masks last : List ℕ) (p A d u e v w r : ℕ) → A ≤ 8 → d ≤ 6 → e ≡ d → v ≡ powerTo A (e / 2)
+pub mask-is : (masks last : List ℕ) (p A d u e v w r : ℕ) → A ≤ mostActions → d ≤ mostDelay → e ≡ d → v ≡ powerTo A (e / 2)
     → w ≡ wordOf A (take (e / 2) last) → u ≡ p → r ≡ getD masks (u * v + w) 0
     → r ≡ getD masks (p * A ^ (d / 2) + wordOf A (take (d / 2) last)) 0
 mask-is masks last p A d u e v w r f g q i j k l =
-    let h : d / 2 ≤ 3 = omega arith in
+    let h : d / 2 ≤ mostHeld = omega arith in
     let x : v ≡ A ^ (d / 2) = i ∙ ap (λ d. powerTo A (d / 2)) q ∙ small-power A (d / 2) (power-bound A (d / 2) f h) in
     let y : w ≡ wordOf A (take (d / 2) last) = j ∙ ap (λ d. wordOf A (take (d / 2) last)) q in
     l ∙ ap (λ n. getD masks n 0) (ap₂ (λ p n. p * n + w) k x ∙ ap (λ w. p * A ^ (d / 2) + w) y)
 
-node-small : (u p v : ℕ) → u ≡ p → p < 256 → v ≤ 65536 → u * v ≤ 256 * 65536
-node-small u p v e h l = mul-le-mul {n₂ = 256} {m₂ = 65536} (omega arith) l
+node-small : (u p v : ℕ) → u ≡ p → p < 256 → v ≤ mostPower → u * v ≤ 256 * mostPower
+node-small u p v e h l = mul-le-mul {n₂ = 256} {m₂ = mostPower} (omega arith) l
 
-pub node-fits : (u p v : ℕ) → u ≡ p → p < 256 → v ≤ 65536 → Fits w64 (u * v)
+pub node-fits : (u p v : ℕ) → u ≡ p → p < 256 → v ≤ mostPower → Fits w64 (u * v)
 node-fits u p v e h l = record { fits = omega (arith, node-small u p v e h l) }
 
-pub node-word-fits : (u p v w : ℕ) → u ≡ p → p < 256 → v ≤ 65536 → w < 256 ^ 3 → Fits w64 (u * v + w)
+pub node-word-fits : (u p v w : ℕ) → u ≡ p → p < 256 → v ≤ mostPower → w < 256 ^ mostHeld → Fits w64 (u * v + w)
 node-word-fits u p v w e h l s = record { fits = omega (arith, node-small u p v e h l) }
 
 pub lowest-fits : (m : ℕ) → Fits w8 (trailingZeros 8 m)

@@ -23,6 +23,7 @@ use Rattle.theory.specs.Exact.{some, leastFlagged, lowestIn, actionAt}
 use Rattle.theory.proofs.Fold.{both-left, both-right, either-left, all-at, below?, failed, passed}
 use Rattle.theory.proofs.Answer.{check-accepted, accepted-on}
 use Rattle.theory.proofs.Masks.{lowest-acts, lowest-missing, lowest-trailing}
+use Rattle.sheet.specs.Limits.{mostActions, mostDelay}
 use Rattle.sheet.specs.Form.{partAt}
 use Rattle.sheet.specs.Refusals.{numberOf}
 use Rattle.sheet.specs.declared.refusal.Refusal.{Refusal}
@@ -34,7 +35,8 @@ use Rattle.table.specs.declared.reading.TableReading.the-variants as table
 use Rattle.state.specs.State.{agrees, lastTurn, unknown, seen, opened, slotAt, heldOk, windowOk, stateOk, pushed, shifted, actedState}
 use Rattle.controller.specs.Controller.{observeWith, wordOf, nextAction, reported, actWith, openAnswer, observeAnswer, actAnswer}
 use Rattle.controller.specs.Accuracy.{observe, act, afterObserving, afterActing, reply}
-use Rattle.controller.specs.Meaning.{stepMeans, openReply, Usable}
+use Rattle.controller.specs.Meaning.{stepMeans, openReply}
+use Rattle.controller.specs.code.Usable.{Usable}
 use Rattle.controller.specs.declared.calls.Decision.{Decision}
 use Rattle.controller.specs.declared.calls.Decision.the-variants.{Accepted, Acted, Refused}
 use Rattle.controller.specs.declared.calls.Step.{Step}
@@ -241,8 +243,8 @@ usable t x e =
     subst Usable (sym y)
     (record {
       some-action = leb-true 1 (decode t .actions) (both-left _ _ p);
-      few-actions = leb-true (decode t .actions) 8 (both-left _ _ q);
-      short-delay = leb-true (decode t .delay) 6 (both-left _ _ (both-right _ _ q));
+      few-actions = leb-true (decode t .actions) mostActions (both-left _ _ q);
+      short-delay = leb-true (decode t .delay) mostDelay (both-left _ _ (both-right _ _ q));
       small-masks = small (both-right _ _ (both-right _ _ (both-right _ _ (m .0))));
     })
   where
@@ -269,11 +271,11 @@ module _ (t : List ℕ) (y : TableReading) (ey : tableReadingMeans t y ≡ table
     pub read-usable : (f m : List ℕ) → f ≡ partAt t (l .flags) → m ≡ partAt t (l .masks) → Usable (says l f m)
     read-usable f m ef em = rw (ef, em) (usable t (tableAt t l) answers)
 
-    pub read-short : l .delay ≤ 6
+    pub read-short : l .delay ≤ mostDelay
     read-short = usable t (tableAt t l) answers .short-delay
 
     pub opens : (r : Step) (s : State) → s ≡ opened → r ≡ step Accepted s → stepMeans r ≡ openReply t
-    unfolding openReply openAnswer onAccepted
+    unfolding openAnswer onAccepted
     opens r s o q = ap stepMeans q ∙ ap (λ s. stepMeans (step Accepted s)) o ∙ rw answers
 
     pub observing : (r : Step) (s : State) (k p : ℕ) → stepMeans r ≡ afterObserving s (observeWith (says l [] []) s k p)
@@ -291,7 +293,7 @@ module _ (t : List ℕ) (y : TableReading) (ey : tableReadingMeans t y ≡ table
     refuses = sym ey ∙ ap (tableReadingMeans t) en
 
     pub opens-not : (r : Step) (s : State) → s ≡ opened → r ≡ step (Refused n) s → stepMeans r ≡ openReply t
-    unfolding openReply openAnswer onAccepted
+    unfolding openAnswer onAccepted
     opens-not r s o q = ap stepMeans q ∙ ap (λ s. stepMeans (step (Refused n) s)) o ∙ rw refuses
 
     pub observe-not : (r : Step) (s : State) (k p : ℕ) → r ≡ step (Refused n) s → stepMeans r ≡ reply t s (observe k p)

@@ -2,3 +2,4 @@
 pub mod Controller
 pub mod Accuracy
 pub mod Meaning
+pub mod code

@@ -26,7 +26,8 @@ ghost use Rattle.sheet.specs.Limits.{mostDelay};
 ghost use Rattle.state.specs.State.{lastTurn, actedState};
 ghost use Rattle.controller.specs.Controller.{observeWith, actWith};
 ghost use Rattle.controller.specs.Accuracy.{observe, act, afterObserving, afterActing, reply};
-ghost use Rattle.controller.specs.Meaning.{stepMeans, openReply, Usable};
+ghost use Rattle.controller.specs.Meaning.{stepMeans, openReply};
+ghost use Rattle.controller.specs.code.Usable.{Usable};
 
 // What a call answers.
 pub enum Decision {

@@ -2,6 +2,7 @@
 use sheet::form::byte;
 use sheet::form::wide;
 use sheet::size::power;
+use state::state::HELD;
 use table::reading::TableLayout;
 ghost use mathlib.Core.Path.{_≡_};
 ghost use mathlib.Core.List.{[]};
@@ -11,6 +12,7 @@ ghost use lib.Count.{trailingZeros};
 ghost use Rattle.theory.specs.Words.{digit};
 ghost use Rattle.theory.specs.Exact.{leastFlagged};
 ghost use Rattle.sheet.specs.Limits.{mostActions, mostDelay};
+ghost use Rattle.state.specs.State.{mostHeld};
 ghost use Rattle.controller.specs.Controller.{wordOf};
 
 // The least word with a flag; the last word where no other has one.
@@ -46,9 +48,9 @@ pub(crate) fn action_of(actions: u8, n: usize, word: usize, i: usize) -> u8
 }
 
 // The word of the n newest actions, the oldest leading.
-fn word_of(actions: u8, last: [u8; 3], n: usize) -> usize
-    requires { ⌜ n ≤ 3 ⌝ }
-    ensures { λ r. ⌜ (r ≡ wordOf actions (take n last)) × (r < 256 ^ 3) ⌝ }
+fn word_of(actions: u8, last: [u8; HELD], n: usize) -> usize
+    requires { ⌜ n ≤ mostHeld ⌝ }
+    ensures { λ r. ⌜ (r ≡ wordOf actions (take n last)) × (r < 256 ^ mostHeld) ⌝ }
 {
     let base = wide(actions);
     let mut word: usize = 0;
@@ -61,7 +63,7 @@ fn word_of(actions: u8, last: [u8; 3], n: usize) -> usize
 }
 
 // The mask of the node of a position and the actions held.
-pub(crate) fn mask_at(l: TableLayout, masks: &[u8], position: u8, last: [u8; 3]) -> u8
+pub(crate) fn mask_at(l: TableLayout, masks: &[u8], position: u8, last: [u8; HELD]) -> u8
     requires { ⌜ (l .actions ≤ mostActions) × (l .delay ≤ mostDelay) ⌝ }
     ensures { λ r. ⌜ r
         ≡ getD (now (masks .entry)) (position * l .actions ^ (l .delay / 2) + wordOf (l .actions) (take (l .delay / 2) last)) 0 ⌝ }

@@ -1,13 +1,17 @@
 -- Decoding and encoding, as the code of src/bytes.rt finds them. Assumes nothing.
-use Prim.Native.Nat.{ℕ, _+_, _*_, _/_, _%_}
-use mathlib.Core.Path.{_≡_, refl}
+use Prim.Native.Nat.{ℕ, _+_, _*_, _/_, _%_, _≤_, _<_}
+use mathlib.Core.Path.{_≡_, refl, _∙_, ap}
 use mathlib.Core.Bool.{true, false, not}
 use mathlib.Core.List.{List, [], _∷_}
-use lib.Dec.{eqb}
-use lib.ListN.{getD}
+use native.Mathlib.Omega.{arith}
+use lib.Dec.{eqb, leb}
+use lib.ListN.{getD, set}
 use borrow.Author.Needs.{needs}
-use Rattle.state.specs.State.{unknown, slotAt}
-use Rattle.state.specs.StateBytes.{turnFrom, slotFrom, slotIn, windowIn, decodeState, flagOf, slotBytes, encodeState}
+use borrow.Author.Tests.{le-leb, lt-leb, eq-eqb, ne-eqb}
+use Rattle.theory.specs.Fold.{either, tabulate}
+use Rattle.theory.proofs.Fold.{either-left}
+use Rattle.state.specs.State.{slots, unknown, slotAt}
+use Rattle.state.specs.StateBytes.{knownAt, positionAt, turnFrom, slotFrom, slotIn, windowIn, decodeState, flagOf, slotBytes, encodeState, slotFilled}
 use Rattle.state.specs.declared.state.Slot.{Slot}
 use Rattle.state.specs.declared.state.State.{State}
 
@@ -40,7 +44,7 @@ pub window-is : (b : List ℕ) (s₀ s₁ s₂ s₃ s₄ s₅ s₆ : Slot)
     → s₅ ≡ slotFrom (getD b 17 0) (getD b 18 0)
     → s₆ ≡ slotFrom (getD b 19 0) (getD b 20 0)
     → s₀ ∷ s₁ ∷ s₂ ∷ s₃ ∷ s₄ ∷ s₅ ∷ s₆ ∷ [] ≡ windowIn b
-unfolding windowIn slotIn
+unfolding windowIn slotIn tabulate
 window-is b s₀ s₁ s₂ s₃ s₄ s₅ s₆ e₀ e₁ e₂ e₃ e₄ e₅ e₆ = rw (e₀, e₁, e₂, e₃, e₄, e₅, e₆)
 
 pub decode-is : (b : List ℕ) (t : ℕ) (w : List Slot) → t ≡ turnFrom (getD b 0 0) (getD b 1 0) (getD b 2 0) (getD b 3 0) → w ≡ windowIn b
@@ -65,3 +69,23 @@ module _ (s : State) (a b c d f₀ f₁ f₂ f₃ f₄ f₅ f₆ : ℕ) where
 pub ruleset wholes = (needs, window-is, decode-is, encode-is)
 
 pub ruleset parts = (needs, turn-is, slot-is, flag-known, flag-unknown)
+
+-- filling slot k with position p
+
+module _ (b : List ℕ) (k p : ℕ) where
+  pub filled-none : slots ≤ k → b ≡ slotFilled b k p
+  unfolding slotFilled
+  filled-none h = rw (either-left (leb slots k) (slotIn b k .known) (le-leb slots k h))
+
+  module _ (h : k < slots) where
+    pub filled-known : (getD b (knownAt k) 0 ≡ 0 → ⊥) → b ≡ slotFilled b k p
+    unfolding slotFilled slotIn slotFrom either
+    filled-known z = rw (lt-leb slots k h, ne-eqb (getD b (knownAt k) 0) 0 z)
+
+    pub filled-new : getD b (knownAt k) 0 ≡ 0 → set (set b (knownAt k) 1) (knownAt k + 1) p ≡ slotFilled b k p
+    unfolding slotFilled slotIn slotFrom either
+    filled-new z =
+        let q : knownAt k + 1 ≡ positionAt k = omega arith in
+        ap (λ at. set (set b (knownAt k) 1) at p) q ∙ rw (lt-leb slots k h, eq-eqb (getD b (knownAt k) 0) 0 z)
+
+pub ruleset fills = (needs, filled-none, filled-known, filled-new)

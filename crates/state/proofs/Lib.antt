@@ -2,3 +2,4 @@
 pub mod StateLaws
 pub mod ByteLaws
 pub mod RoundTrip
+pub mod Repeat

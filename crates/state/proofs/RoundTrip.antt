@@ -6,7 +6,8 @@ use mathlib.Core.List.{List, [], _∷_}
 use native.Mathlib.Omega.{arith}
 use lib.Dec.{eqb}
 use lib.ListN.{length, getD}
-use Rattle.state.specs.State.{unknown, slotAt}
+use Rattle.theory.specs.Fold.{tabulate}
+use Rattle.state.specs.State.{mostHeld, slots, unknown, slotAt}
 use Rattle.state.specs.StateBytes.{turnFrom, slotFrom, slotIn, windowIn, decodeState, flagOf, slotBytes, encodeState}
 use Rattle.state.specs.declared.state.Slot.{Slot}
 use Rattle.state.specs.declared.state.State.{State}
@@ -14,16 +15,16 @@ use Rattle.state.specs.declared.state.State.{State}
 -- a state that has bytes: a turn of four bytes, three held actions, seven slots
 pub record Held (s : State) : Type 0 where
   pub short-turn : s .turn < 4294967296
-  pub three : length (s .last) ≡ 3
-  pub seven : length (s .window) ≡ 7
+  pub three : length (s .last) ≡ mostHeld
+  pub seven : length (s .window) ≡ slots
 
 -- any bytes decode to three actions and seven slots
-pub three-decoded : (b : List ℕ) → length (decodeState b .last) ≡ 3
+pub three-decoded : (b : List ℕ) → length (decodeState b .last) ≡ mostHeld
 unfolding decodeState
 three-decoded b = refl
 
-pub seven-decoded : (b : List ℕ) → length (decodeState b .window) ≡ 7
-unfolding decodeState windowIn
+pub seven-decoded : (b : List ℕ) → length (decodeState b .window) ≡ slots
+unfolding decodeState windowIn tabulate
 seven-decoded b = refl
 
 -- decoding what was encoded
@@ -40,14 +41,14 @@ slot-back : (v : Slot) → slotFrom (flagOf v) (v .position) ≡ v
 unfolding slotFrom flagOf
 slot-back v = λ i. record { known = known-back (v .known) i; position = v .position }
 
-actions-back : (l : List ℕ) → length l ≡ 3 → getD l 0 0 ∷ getD l 1 0 ∷ getD l 2 0 ∷ [] ≡ l
+actions-back : (l : List ℕ) → length l ≡ mostHeld → getD l 0 0 ∷ getD l 1 0 ∷ getD l 2 0 ∷ [] ≡ l
 actions-back [] e = absurd (omega arith)
 actions-back (a ∷ []) e = absurd (omega arith)
 actions-back (a ∷ b ∷ []) e = absurd (omega arith)
 actions-back (a ∷ b ∷ c ∷ []) e = refl
 actions-back (a ∷ b ∷ c ∷ d ∷ l) e = absurd (omega arith)
 
-window-back : (l : List Slot) → length l ≡ 7
+window-back : (l : List Slot) → length l ≡ slots
     → getD l 0 unknown ∷ getD l 1 unknown ∷ getD l 2 unknown ∷ getD l 3 unknown ∷ getD l 4 unknown ∷ getD l 5 unknown ∷ getD l 6 unknown ∷ []
     ≡ l
 window-back [] e = absurd (omega arith)
@@ -60,8 +61,8 @@ window-back (a ∷ b ∷ c ∷ d ∷ f ∷ g ∷ []) e = absurd (omega arith)
 window-back (a ∷ b ∷ c ∷ d ∷ f ∷ g ∷ h ∷ []) e = refl
 window-back (a ∷ b ∷ c ∷ d ∷ f ∷ g ∷ h ∷ j ∷ l) e = absurd (omega arith)
 
-slots-back : (s : State) → length (s .window) ≡ 7 → decodeState (encodeState s) .window ≡ s .window
-unfolding decodeState encodeState windowIn slotIn slotBytes slotAt
+slots-back : (s : State) → length (s .window) ≡ slots → decodeState (encodeState s) .window ≡ s .window
+unfolding decodeState encodeState windowIn slotIn slotBytes slotAt tabulate
 slots-back s e = simp slot-back (window-back (s .window) e)
 
 pub decode-encode : (s : State) → Held s → decodeState (encodeState s) ≡ s

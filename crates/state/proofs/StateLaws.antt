@@ -13,13 +13,13 @@ use Rattle.theory.specs.Fold.{both, either, allBelow, tabulate}
 use Rattle.theory.proofs.Fold.{both-false, both-true, all-none, all-done, both-none, both-second, failed, passed, all-next, all-stopped}
 use Rattle.table.specs.TableSheet.{says}
 use Rattle.table.specs.declared.reading.TableLayout.{TableLayout}
-use Rattle.state.specs.State.{lastTurn, unknown, opened, agrees, heldAt, withinAt, heldOk, windowOk, stateOk, pushed, shiftedAt, shifted}
+use Rattle.state.specs.State.{lastTurn, mostHeld, slots, unknown, opened, agrees, heldAt, withinAt, heldOk, windowOk, stateOk, pushed, shiftedAt, shifted}
 use Rattle.state.specs.declared.state.Slot.{Slot}
 use Rattle.state.specs.declared.state.State.{State}
 
 -- slots
 
-pub no-slot : (window : List Slot) (k : ℕ) (r : Slot) → length window ≡ 7 → 7 ≤ k → r ≡ unknown → r ≡ getD window k unknown
+pub no-slot : (window : List Slot) (k : ℕ) (r : Slot) → length window ≡ slots → slots ≤ k → r ≡ unknown → r ≡ getD window k unknown
 no-slot window k r e h f = f ∙ sym (List·getD-eq-default window unknown (omega arith))
 
 pub known-agrees : (v : Slot) (p : ℕ) → v .known ≡ true → eqb (v .position) p ≡ agrees v p
@@ -30,7 +30,7 @@ pub unknown-agrees : (v : Slot) (p : ℕ) → v .known ≡ false → true ≡ ag
 unfolding agrees either
 unknown-agrees v p e = rw e
 
-pub opened-is : (v : Slot) → v ≡ unknown → record { turn = 0; last = replicate 3 0; window = replicate 7 v } ≡ opened
+pub opened-is : (v : Slot) → v ≡ unknown → record { turn = 0; last = replicate mostHeld 0; window = replicate slots v } ≡ opened
 opened-is v e = rw e
 
 pub ruleset slot-laws = (needs, opened-is, no-slot, known-agrees, unknown-agrees)
@@ -75,7 +75,7 @@ module _ (actions : ℕ) (last : List ℕ) (k : ℕ) where
   unfolding heldAt
   held-is = refl
 
-  pub held-none : length last ≡ 3 → 3 ≤ k → ltb 0 actions ≡ heldAt actions last k
+  pub held-none : length last ≡ mostHeld → mostHeld ≤ k → ltb 0 actions ≡ heldAt actions last k
   unfolding heldAt
   held-none e h = ap (λ a. ltb a actions) (sym (List·getD-eq-default last 0 (omega arith)))
 

@@ -13,6 +13,10 @@ use Rattle.state.specs.declared.state.State.{State}
 abbrev pub lastTurn : ℕ
 lastTurn = 1000000
 
+-- the held actions at the largest delay: L is 3
+abbrev pub mostHeld : ℕ
+mostHeld = 3
+
 -- the slots of a window at the largest delay: indices 2i - 6 to 2i
 abbrev pub slots : ℕ
 slots = 7
@@ -26,7 +30,7 @@ seen p = record { known = true; position = p }
 
 -- "turn 0, no command given, no report heard"
 abbrev pub opened : State
-opened = record { turn = 0; last = replicate 3 0; window = replicate slots unknown }
+opened = record { turn = 0; last = replicate mostHeld 0; window = replicate slots unknown }
 
 -- the slot of age k, for the index 2 * turn - k
 unfoldable pub slotAt : State → ℕ → Slot

@@ -3,11 +3,23 @@
 use Prim.Native.Nat.{ℕ, _+_, _*_, _/_, _%_}
 use mathlib.Core.Bool.{cond, not}
 use mathlib.Core.List.{List, [], _∷_}
-use lib.Dec.{eqb}
-use lib.ListN.{getD}
-use Rattle.state.specs.State.{slotAt}
+use lib.Dec.{eqb, leb}
+use lib.ListN.{getD, set}
+use Rattle.theory.specs.Fold.{either, tabulate}
+use Rattle.state.specs.State.{slots, slotAt}
 use Rattle.state.specs.declared.state.Slot.{Slot}
 use Rattle.state.specs.declared.state.State.{State}
+
+-- the number of bytes
+abbrev pub stateBytes : ℕ
+stateBytes = 21
+
+-- where slot k says whether it is known, and where its position is
+abbrev pub knownAt : ℕ → ℕ
+knownAt k = 7 + 2 * k
+
+abbrev pub positionAt : ℕ → ℕ
+positionAt k = 8 + 2 * k
 
 unfoldable pub turnFrom : ℕ → ℕ → ℕ → ℕ → ℕ
 turnFrom a b c d = a + 256 * (b + 256 * (c + 256 * d))
@@ -15,12 +27,12 @@ turnFrom a b c d = a + 256 * (b + 256 * (c + 256 * d))
 unfoldable pub slotFrom : ℕ → ℕ → Slot
 slotFrom known position = record { known = not (eqb known 0); position = position }
 
--- the slot whose bytes are at this place
+-- slot k
 unfoldable pub slotIn : List ℕ → ℕ → Slot
-slotIn b at = slotFrom (getD b at 0) (getD b (1 + at) 0)
+slotIn b k = slotFrom (getD b (knownAt k) 0) (getD b (positionAt k) 0)
 
 unfoldable pub windowIn : List ℕ → List Slot
-windowIn b = slotIn b 7 ∷ slotIn b 9 ∷ slotIn b 11 ∷ slotIn b 13 ∷ slotIn b 15 ∷ slotIn b 17 ∷ slotIn b 19 ∷ []
+windowIn b = tabulate (slotIn b) 0 slots
 
 unfoldable pub decodeState : List ℕ → State
 decodeState b =
@@ -47,3 +59,8 @@ encodeState s =
     ∷ getD (s .last) 1 0
     ∷ getD (s .last) 2 0
     ∷ slotBytes s 0 (slotBytes s 1 (slotBytes s 2 (slotBytes s 3 (slotBytes s 4 (slotBytes s 5 (slotBytes s 6 []))))))
+
+-- the bytes once position p was observed in slot k: only the slot's own two change, and none where it is known already (a repeat
+-- "changes nothing") or there is no such slot
+unfoldable pub slotFilled : List ℕ → ℕ → ℕ → List ℕ
+slotFilled b k p = cond (either (leb slots k) (slotIn b k .known)) b (set (set b (knownAt k) 1) (positionAt k) p)

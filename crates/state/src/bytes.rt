@@ -1,10 +1,16 @@
 // The controller's state as 21 bytes that the caller keeps (include/loquatquoits.h). Any bytes are a state.
+use crate::state::SLOTS;
 use crate::state::Slot;
 use crate::state::State;
+use sheet::form::low_byte;
 use sheet::form::wide;
 ghost use mathlib.Core.Path.{_≡_};
-ghost use Prim.Native.Nat.{_%_};
-ghost use Rattle.state.specs.StateBytes.{turnFrom, slotFrom, windowIn, decodeState, flagOf, encodeState};
+ghost use Rattle.state.specs.StateBytes.{turnFrom, slotFrom, windowIn, decodeState, flagOf, encodeState, slotFilled};
+
+pub const STATE_BYTES: usize = 21;
+
+// Where the slots begin.
+const WINDOW: usize = 7;
 
 // The turn from its four bytes, the low one first.
 fn turn_from(a: u8, b: u8, c: u8, d: u8) -> usize
@@ -22,13 +28,6 @@ fn slot_from(known: u8, position: u8) -> Slot
     }
 }
 
-// The low byte of a number.
-fn low(n: usize) -> u8
-    ensures { λ r. ⌜ r ≡ n % 256 ⌝ }
-{
-    (n % 256) as u8
-}
-
 fn flag(slot: Slot) -> u8
     ensures { λ r. ⌜ r ≡ flagOf slot ⌝ }
 {
@@ -38,7 +37,7 @@ fn flag(slot: Slot) -> u8
     0
 }
 
-fn window_in(b: &[u8; 21]) -> [Slot; 7]
+fn window_in(b: &[u8; STATE_BYTES]) -> [Slot; SLOTS]
     ensures { λ r. ⌜ r ≡ windowIn (now (b .entry)) ⌝ }
 {
     let s0 = slot_from(b[7], b[8]);
@@ -51,7 +50,7 @@ fn window_in(b: &[u8; 21]) -> [Slot; 7]
     [s0, s1, s2, s3, s4, s5, s6]
 }
 
-pub fn decode(b: &[u8; 21]) -> State
+pub fn decode(b: &[u8; STATE_BYTES]) -> State
     ensures { λ r. ⌜ r ≡ decodeState (now (b .entry)) ⌝ }
 {
     let turn = turn_from(b[0], b[1], b[2], b[3]);
@@ -60,7 +59,7 @@ pub fn decode(b: &[u8; 21]) -> State
     State { turn, last, window }
 }
 
-pub fn encode(s: State) -> [u8; 21]
+pub fn encode(s: State) -> [u8; STATE_BYTES]
     ensures { λ r. ⌜ r ≡ encodeState s ⌝ }
 {
     let t = s.turn;
@@ -74,10 +73,10 @@ pub fn encode(s: State) -> [u8; 21]
     let w5 = w[5];
     let w6 = w[6];
     [
-        low(t),
-        low(t / 256),
-        low(t / 256 / 256),
-        low(t / 256 / 256 / 256),
+        low_byte(t),
+        low_byte(t / 256),
+        low_byte(t / 256 / 256),
+        low_byte(t / 256 / 256 / 256),
         a[0],
         a[1],
         a[2],
@@ -96,4 +95,19 @@ pub fn encode(s: State) -> [u8; 21]
         flag(w6),
         w6.position,
     ]
+}
+
+// Writes position to slot k. A slot that is known is left as it is, byte for byte, and so is everything else.
+pub fn fill_slot(b: &mut [u8; STATE_BYTES], k: usize, position: u8)
+    ensures { λ r. ⌜ now (b .exit) ≡ slotFilled (now (b .entry)) k position ⌝ }
+{
+    if SLOTS <= k {
+        return;
+    }
+    let at = WINDOW + 2 * k;
+    if b[at] != 0 {
+        return;
+    }
+    b[at] = 1;
+    b[at + 1] = position;
 }

@@ -1,5 +1,7 @@
 // Check 20: is a state one, under a table sheet's numbers? It is total: entries outside the window don't matter.
+use crate::state::HELD;
 use crate::state::LAST_TURN;
+use crate::state::SLOTS;
 use crate::state::Slot;
 use crate::state::State;
 use crate::state::slot_in;
@@ -12,15 +14,13 @@ ghost use Rattle.theory.specs.Fold.{allBelow};
 ghost use Rattle.table.specs.TableSheet.{says};
 ghost use Rattle.state.specs.State.{heldAt, withinAt, stateOk};
 
-const HELD: usize = 3;
-
 fn smaller(a: usize, b: usize) -> usize
     ensures { λ r. ⌜ r ≡ min a b ⌝ }
 {
     if a < b { a } else { b }
 }
 
-fn held_at(actions: u8, last: [u8; 3], k: usize) -> bool
+fn held_at(actions: u8, last: [u8; HELD], k: usize) -> bool
     ensures { λ r. ⌜ r ≡ heldAt actions last k ⌝ }
 {
     if k < HELD {
@@ -30,7 +30,7 @@ fn held_at(actions: u8, last: [u8; 3], k: usize) -> bool
 }
 
 // Are the n newest actions held below the number of actions?
-fn held_ok(actions: u8, last: [u8; 3], n: usize) -> bool
+fn held_ok(actions: u8, last: [u8; HELD], n: usize) -> bool
     ensures { λ r. ⌜ r ≡ allBelow (heldAt actions last) n ⌝ }
 {
     let mut k: usize = 0;
@@ -43,7 +43,7 @@ fn held_ok(actions: u8, last: [u8; 3], n: usize) -> bool
     true
 }
 
-fn within_at(highest: u8, window: [Slot; 7], k: usize) -> bool
+fn within_at(highest: u8, window: [Slot; SLOTS], k: usize) -> bool
     ensures { λ r. ⌜ r ≡ withinAt highest window k ⌝ }
 {
     let slot = slot_in(window, k);
@@ -54,7 +54,7 @@ fn within_at(highest: u8, window: [Slot; 7], k: usize) -> bool
 }
 
 // Are the positions in the n newest slots not over the highest?
-fn window_ok(highest: u8, window: [Slot; 7], n: usize) -> bool
+fn window_ok(highest: u8, window: [Slot; SLOTS], n: usize) -> bool
     ensures { λ r. ⌜ r ≡ allBelow (withinAt highest window) n ⌝ }
 {
     let mut k: usize = 0;

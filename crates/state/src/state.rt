@@ -7,7 +7,10 @@ ghost use Rattle.state.specs.State.{unknown, opened, agrees, pushed, shi
 // The last turn: no action is taken at it.
 pub const LAST_TURN: usize = 1000000;
 
-const SLOTS: usize = 7;
+// The most actions that are held, and the slots of the longest window.
+pub const HELD: usize = 3;
+
+pub const SLOTS: usize = 7;
 
 // An observation: is the position of this index known, and which one it is.
 pub struct Slot {
@@ -18,8 +21,8 @@ pub struct Slot {
 // last[k] is the action of turn - 1 - k, window[k] the position at index 2 * turn - k; what is not held is 0.
 pub struct State {
     pub turn: usize,
-    pub last: [u8; 3],
-    pub window: [Slot; 7],
+    pub last: [u8; HELD],
+    pub window: [Slot; SLOTS],
 }
 
 // A slot without a report.
@@ -37,8 +40,8 @@ pub fn opened() -> State
     ensures { λ r. ⌜ r ≡ opened ⌝ }
 {
     let none = unknown();
-    let window = [none; 7];
-    let last = [0u8; 3];
+    let window = [none; SLOTS];
+    let last = [0u8; HELD];
     State {
         turn: 0,
         last,
@@ -47,7 +50,7 @@ pub fn opened() -> State
 }
 
 // The slot of age k; unknown where there is none.
-pub fn slot_in(window: [Slot; 7], k: usize) -> Slot
+pub fn slot_in(window: [Slot; SLOTS], k: usize) -> Slot
     ensures { λ r. ⌜ r ≡ getD window k unknown ⌝ }
 {
     if k < SLOTS {
@@ -66,14 +69,14 @@ pub fn agrees(slot: Slot, position: u8) -> bool
     true
 }
 
-pub fn pushed(action: u8, last: [u8; 3]) -> [u8; 3]
+pub fn pushed(action: u8, last: [u8; HELD]) -> [u8; HELD]
     ensures { λ r. ⌜ r ≡ pushed action last ⌝ }
 {
     [action, last[0], last[1]]
 }
 
 // Slot k a turn later: it was two younger, and is dropped below the new window.
-fn shifted_at(delay: u8, window: [Slot; 7], k: u8) -> Slot
+fn shifted_at(delay: u8, window: [Slot; SLOTS], k: u8) -> Slot
     ensures { λ r. ⌜ r ≡ shiftedAt delay window k ⌝ }
 {
     if k < 2 {
@@ -85,7 +88,7 @@ fn shifted_at(delay: u8, window: [Slot; 7], k: u8) -> Slot
     slot_in(window, wide(k) - 2)
 }
 
-pub fn shifted(delay: u8, window: [Slot; 7]) -> [Slot; 7]
+pub fn shifted(delay: u8, window: [Slot; SLOTS]) -> [Slot; SLOTS]
     ensures { λ r. ⌜ r ≡ shifted delay window ⌝ }
 {
     let none = unknown();

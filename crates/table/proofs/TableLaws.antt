@@ -18,6 +18,7 @@ use Rattle.theory.specs.Strategy.{initialLength}
 use Rattle.theory.specs.Table.{Table, flagged}
 use Rattle.theory.proofs.Answer.{check-passed}
 use Rattle.theory.proofs.Fold.{bool, both-false, both-left, both-right, all-none, all-again, all-fails, all-short, any-none, any-holds, any-again, any-done, both-none, both-second, failed, passed}
+use Rattle.sheet.specs.Limits.{width, mostActions, mostDelay, mostNodes}
 use Rattle.sheet.specs.Form.{contentsOk, placedAt, partAt, bodyOf}
 use Rattle.sheet.specs.Checks.{nodesOf}
 use Rattle.sheet.specs.code.Steps.{powerTo}
@@ -33,8 +34,8 @@ use Rattle.sheet.proofs.SizeLaws.{small-power, nodes-small, words-small}
 
 -- the layout
 
-pub layout-is : (s h : List ℕ) (a b d e : ℕ) (x y : Place) → h ≡ bodyOf 2 s 0 → a ≡ getD h 0 0 → b ≡ getD h 1 0 → d ≡ getD h 2 0
-    → e ≡ getD h 3 0 → x ≡ placedAt 2 s 1 → y ≡ placedAt 2 s 2
+pub layout-is : (s h : List ℕ) (a b d e : ℕ) (x y : Place) → h ≡ bodyOf width s 0 → a ≡ getD h 0 0 → b ≡ getD h 1 0 → d ≡ getD h 2 0
+    → e ≡ getD h 3 0 → x ≡ placedAt width s 1 → y ≡ placedAt width s 2
     → record { start = a; actions = b; delay = d; highest = e; flags = x; masks = y } ≡ tableLayout s
 unfolding tableLayout
 layout-is s h a b d e x y p q r t u v w = rw (q, r, t, u, p, v, w)
@@ -52,24 +53,24 @@ module _ (size : ℕ) (l : TableLayout) where
   unfolding numbersOk
   no-action e = sym (both-false _ _ (both-none _ _ (lt-leb 1 (l .actions) e)))
 
-  pub many-actions : 8 < l .actions → false ≡ numbersOk size (says l [] [])
+  pub many-actions : mostActions < l .actions → false ≡ numbersOk size (says l [] [])
   unfolding numbersOk
-  many-actions e = sym (both-false _ _ (both-false _ _ (both-none _ _ (lt-leb (l .actions) 8 e))))
+  many-actions e = sym (both-false _ _ (both-false _ _ (both-none _ _ (lt-leb (l .actions) mostActions e))))
 
-  pub long-delay : 6 < l .delay → false ≡ numbersOk size (says l [] [])
+  pub long-delay : mostDelay < l .delay → false ≡ numbersOk size (says l [] [])
   unfolding numbersOk
-  long-delay e = sym (both-false _ _ (both-false _ _ (both-false _ _ (both-none _ _ (lt-leb (l .delay) 6 e)))))
+  long-delay e = sym (both-false _ _ (both-false _ _ (both-false _ _ (both-none _ _ (lt-leb (l .delay) mostDelay e)))))
 
   pub high-start : l .highest < l .start → false ≡ numbersOk size (says l [] [])
   unfolding numbersOk
   high-start e =
       sym (both-false _ _ (both-false _ _ (both-false _ _ (both-false _ _ (both-none _ _ (lt-leb (l .start) (l .highest) e))))))
 
-  pub numbers-end : (v r : ℕ) → size ≡ 4 → 1 ≤ l .actions → l .actions ≤ 8 → l .delay ≤ 6 → l .start ≤ l .highest → v ≡ l .highest
-      → r ≡ (v + 1) * powerTo (l .actions) (l .delay / 2) → leb r 16384 ≡ numbersOk size (says l [] [])
+  pub numbers-end : (v r : ℕ) → size ≡ 4 → 1 ≤ l .actions → l .actions ≤ mostActions → l .delay ≤ mostDelay → l .start ≤ l .highest → v ≡ l .highest
+      → r ≡ (v + 1) * powerTo (l .actions) (l .delay / 2) → leb r mostNodes ≡ numbersOk size (says l [] [])
   unfolding numbersOk tableNodes
   numbers-end v r e a b d h g n =
-      ap (λ m. leb m 16384) (rw g at (nodes-small (l .actions) (l .delay) b d (v + 1) r n))
+      ap (λ m. leb m mostNodes) (rw g at (nodes-small (l .actions) (l .delay) b d (v + 1) r n))
       ∙ sym
       (both-second _ _ (eq-eqb _ _ e)
       ∙ both-second _ _ (le-leb _ _ a)
@@ -107,9 +108,9 @@ module _ (top : ℕ) (b : List ℕ) where
 
 pub ruleset below = (needs, below-first, below-over, below-same, below-done)
 
--- the number y of masks of at most 8 actions: there are some, and the largest is a byte; a is A as a number
+-- the number y of masks of as many actions as there can be: there are some, and the largest is a byte; a is A as a number
 
-module _ (a n y : ℕ) (few : n ≤ 8) (ea : a ≡ n) (ey : y ≡ powerTo 2 a) where
+module _ (a n y : ℕ) (few : n ≤ mostActions) (ea : a ≡ n) (ey : y ≡ powerTo 2 a) where
   masks-are : y ≡ 2 ^ n
   masks-are =
       let most : 2 ^ n ≤ 512 = le-trans (pow-mono few) (omega arith) in
@@ -123,7 +124,7 @@ module _ (a n y : ℕ) (few : n ≤ 8) (ea : a ≡ n) (ey : y ≡ powerTo 2 a) w
 
 -- 11, the W and T bodies; v is the highest position as a number, x and n what the lengths must be, r a test's result
 
-module _ (l : TableLayout) (w t : List ℕ) (few : l .actions ≤ 8) (short : l .delay ≤ 6) (x : ℕ)
+module _ (l : TableLayout) (w t : List ℕ) (few : l .actions ≤ mostActions) (short : l .delay ≤ mostDelay) (x : ℕ)
     (ex : x ≡ powerTo (l .actions) (initialLength (l .delay))) where
   words-are : x ≡ l .actions ^ initialLength (l .delay)
   words-are = words-small (l .actions) (l .delay) few short x ex
@@ -173,22 +174,22 @@ says-same s l e = ap (tableAt s) e
 
 -- what check 11 leaves of A and the delay
 module _ (n : ℕ) (l : TableLayout) (r : Bool) (e : r ≡ numbersOk n (says l [] [])) (g : not r ≡ false) where
-  pub few-actions : l .actions ≤ 8
+  pub few-actions : l .actions ≤ mostActions
   unfolding numbersOk
   few-actions = leb-true _ _ (both-left _ _ (both-right _ _ (both-right _ _ (passed e g))))
 
-  pub short-delay : l .delay ≤ 6
+  pub short-delay : l .delay ≤ mostDelay
   unfolding numbersOk
   short-delay = leb-true _ _ (both-left _ _ (both-right _ _ (both-right _ _ (both-right _ _ (passed e g)))))
 
-module _ (s : List ℕ) (r₁ : Bool) (e₁ : r₁ ≡ contentsOk 2 tableLetters s) where
+module _ (s : List ℕ) (r₁ : Bool) (e₁ : r₁ ≡ contentsOk width tableLetters s) where
   pub refuses-10 : not r₁ ≡ true → refused 10 ≡ shapeAnswer s
   unfolding shapeAnswer check
   refuses-10 x = rw (failed e₁ x)
 
-  module _ (t₁ : not r₁ ≡ false) (l : TableLayout) (el : l ≡ tableLayout s) (h : List ℕ) (eh : h ≡ bodyOf 2 s 0) (r₂ : Bool)
+  module _ (t₁ : not r₁ ≡ false) (l : TableLayout) (el : l ≡ tableLayout s) (h : List ℕ) (eh : h ≡ bodyOf width s 0) (r₂ : Bool)
       (e₂ : r₂ ≡ numbersOk (length h) (says l [] [])) where
-    two : r₂ ≡ numbersOk (length (bodyOf 2 s 0)) (decode s)
+    two : r₂ ≡ numbersOk (length (bodyOf width s 0)) (decode s)
     two = e₂ ∙ ap (λ b. numbersOk (length b) (says l [] [])) eh ∙ numbers-any _ l _ _ ∙ ap (numbersOk _) (says-same s l el)
 
     pub refuses-11 : not r₂ ≡ true → refused 11 ≡ shapeAnswer s
@@ -279,7 +280,7 @@ module _ (s : List ℕ) (y : TableReading) (ey : tableReadingMeans s y ≡ table
   unfolding masksOf masksIn
   masks-none x e = rw (sym ey ∙ ap (tableReadingMeans s) e)
 
-  pub masks-some : (l : TableLayout) (t : List ℕ) → y ≡ Accepted l → t ≡ bodyOf 2 s 2 → t ≡ masksOf s
+  pub masks-some : (l : TableLayout) (t : List ℕ) → y ≡ Accepted l → t ≡ bodyOf width s 2 → t ≡ masksOf s
   unfolding masksOf masksIn
   masks-some l t e f = rw (sym ey ∙ ap (tableReadingMeans s) e) f
 

@@ -1,5 +1,5 @@
--- `lq_read` meets its contract. Assumes nothing.
-use Rattle.capi.proofs.ExportLaws.{refuses, accepts}
+-- `lq_read` meets its contract, by the laws of ExportLaws.antt. Assumes nothing.
+use Rattle.capi.proofs.ExportLaws.{reads}
 use borrow.Author.Needs.{needs}
 use Rattle.capi.proofs.lq_read.Statement.{statement}
 use Rattle.capi.proofs.lq_read.Tie as tie
@@ -7,4 +7,5 @@ use Rattle.capi.proofs.lq_read.Tie as tie
 pub lq-read-spec : {M : Type 1} → statement M
 lq-read-spec =
     tie.close
-    (tie.spec (λ c κs. search needs) (λ c. search needs) (λ c. search needs) (λ c κs. search needs) (λ c. search refuses) (λ c. search accepts))
+    (tie.spec (λ c κs. search needs) (λ c. search needs) (λ c. search needs) (λ c κs. search needs)
+    (λ c. (search reads, (search reads, search reads))) (λ c. (search reads, (search reads, search reads))))
