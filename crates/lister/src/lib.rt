@@ -57,7 +57,7 @@ fn put_flagged(
     )
 }
 
-// The same with a buffer of its own. Nothing else is done beside the array: with it in scope a search for a proof breaks off.
+// The same with a buffer of its own. Nothing else is done beside the array: a proof's search breaks off with a large one in scope.
 fn put_words(out: &mut [u8], at: usize, sheet: &[u8], l: Layout, ranks: &[u16]) -> usize
     ensures { λ r. ⌜ Writes (now (out .entry)) at (startsBy l (flagsIn (now (sheet .entry)) (now (ranks .entry)) mostWords))
         (now (out .exit)) r ⌝ }

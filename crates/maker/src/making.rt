@@ -96,7 +96,7 @@ fn write_flagged(
     put_table_sheet(out, &h, &flags[..words], &masks[..nodes])
 }
 
-// The same with a buffer of its own. Nothing else is done beside the array: with it in scope a search for a proof breaks off.
+// The same with a buffer of its own. Nothing else is done beside the array: a proof's search breaks off with a large one in scope.
 fn write_table(sheet: &[u8], l: Layout, masks: &[u8], ranks: &[u16], out: &mut [u8]) -> usize
     requires { ⌜ HasTable (now sheet) l (now masks) (now ranks) ⌝ }
     ensures { λ r. ⌜ Writes (now (out .entry)) 0 (tableSheetOf (gameOf (now (sheet .entry))) (delayOf (now (sheet .entry))))
@@ -124,6 +124,7 @@ fn make_read(sheet: &[u8], l: Layout, masks: &mut [u8], ranks: &mut [u16], out: 
     }
 }
 
+// Making: the answer, the areas as in solving, and the sheet in `out`.
 pub fn make(sheet: &[u8], masks: &mut [u8], ranks: &mut [u16], out: &mut [u8]) -> Making
     ensures answer { λ r. ⌜ makingMeans r
         ≡ measured (making (now (sheet .entry)) (now (masks .entry)) (now (ranks .entry)) (now (out .entry))) ⌝ }
