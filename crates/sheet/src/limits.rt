@@ -1,4 +1,4 @@
-// Document 01's numbers for game sheets, named once; specs/Limits.antt has them too.
+// Document 01's numbers for game sheets, and the code's own, named once; specs/Limits.antt and specs/code/ have them too.
 pub const MOST_POSITIONS: usize = 256;
 
 pub const MOST_ACTIONS: u8 = 8;

@@ -7,7 +7,7 @@ use lib.Dec.{eqb, ltb}
 use lib.ListN.{length, getD}
 use Rattle.theory.specs.Fold.{both, firstNot, tabulate}
 use Rattle.theory.specs.Game.{Target, absent, to, Game}
-use Rattle.sheet.specs.Limits.{mostPositions, mostActions, mostMoves, indexEntries}
+use Rattle.sheet.specs.Limits.{mostPositions, mostActions, mostMoves}
 use Rattle.sheet.specs.Kinds.{controllerAt, safeAt}
 use Rattle.sheet.specs.SheetGame.{targetIn}
 
@@ -48,6 +48,10 @@ fromBelow u q i = ltb (getD u (2 * i) 0) q
 -- the first line of the U body that is not of a position below q; the number of lines where there is none
 unfoldable pub firstLine : List ℕ → ℕ → ℕ
 firstLine u q = firstNot (fromBelow u q) (suc (lineCount u))
+
+-- the entries of the index of first lines, one more than there are positions
+abbrev pub indexEntries : ℕ
+indexEntries = mostPositions + 1
 
 -- the index: an entry for each position, and one for the end of the last position's lines
 unfoldable pub firstsOf : List ℕ → List ℕ
