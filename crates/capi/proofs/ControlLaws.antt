@@ -16,12 +16,11 @@ use Rattle.table.specs.TableSheet.{tableAnswer}
 use Rattle.state.specs.State.{lastTurn, stateOk}
 use Rattle.state.specs.StateBytes.{decodeState, slotFilled}
 use Rattle.state.specs.declared.state.State.{State}
-use Rattle.controller.specs.Controller.{Acted, observeWith, observeAnswer, actAnswer}
+use Rattle.controller.specs.Controller.{TurnTaken, observeWith, observeAnswer, actAnswer}
 use Rattle.controller.specs.Accuracy.{Response, accepts, acts, refuses, observe, act, Reply, afterObserving, afterActing, reply}
 use Rattle.controller.specs.Meaning.{responseOf, stepMeans}
 use Rattle.controller.specs.declared.calls.Decision.{Decision}
-use Rattle.controller.specs.declared.calls.Decision.the-variants.{Accepted, Refused}
-use Rattle.controller.specs.declared.calls.Decision.the-variants as decisions
+use Rattle.controller.specs.declared.calls.Decision.the-variants.{Accepted, Acted, Refused}
 use Rattle.controller.specs.declared.calls.Step.{Step}
 use Rattle.capi.specs.Exported.{byAnswer}
 
@@ -32,7 +31,7 @@ answerIn accepts s = accepted s
 answerIn (refuses n) s = refused n
 answerIn (acts c) s = refused 0
 
-abbrev actedIn : Response → State → Answer Acted
+abbrev actedIn : Response → State → Answer TurnTaken
 actedIn (acts c) s = accepted (record { action = c; state = s })
 actedIn (refuses n) s = refused n
 actedIn accepts s = refused 0
@@ -41,7 +40,7 @@ answer-in : (s : State) (a : Answer State) → answerIn (afterObserving s a .res
 answer-in s (refused n) = refl
 answer-in s (accepted x) = refl
 
-acted-in : (s : State) (a : Answer Acted) → actedIn (afterActing s a .response) (afterActing s a .state) ≡ a
+acted-in : (s : State) (a : Answer TurnTaken) → actedIn (afterActing s a .response) (afterActing s a .state) ≡ a
 acted-in s (refused n) = refl
 acted-in s (accepted x) = refl
 
@@ -64,9 +63,9 @@ module _ {B : Type 0} (v : B) (g : ℕ → B) (r : Step) where
     unfolding byAnswer
     open-accepted e q = q ∙ by-reply Accepted e
 
-    pub open-never : (c : ℕ) → r .decision ≡ decisions.Acted c → v ≡ g 0 → v ≡ byAnswer g f a
+    pub open-never : (c : ℕ) → r .decision ≡ Acted c → v ≡ g 0 → v ≡ byAnswer g f a
     unfolding byAnswer
-    open-never c e q = q ∙ by-reply (decisions.Acted c) e
+    open-never c e q = q ∙ by-reply (Acted c) e
 
   -- the state s is what the bytes b mean
 
@@ -84,10 +83,10 @@ module _ {B : Type 0} (v : B) (g : ℕ → B) (r : Step) where
       pub observe-accepted : r .decision ≡ Accepted → v ≡ f (r .state) → v ≡ byAnswer g f observation
       observe-accepted = open-accepted f (decodeState b) observation observe-told
 
-      pub observe-never : (c : ℕ) → r .decision ≡ decisions.Acted c → v ≡ g 0 → v ≡ byAnswer g f observation
+      pub observe-never : (c : ℕ) → r .decision ≡ Acted c → v ≡ g 0 → v ≡ byAnswer g f observation
       observe-never = open-never f (decodeState b) observation observe-told
 
-    module _ (f : Acted → B) (told : stepMeans r ≡ reply t s act) where
+    module _ (f : TurnTaken → B) (told : stepMeans r ≡ reply t s act) where
       by-act : (d : Decision) → r .decision ≡ d → byAnswer g f (actedIn (responseOf d) (r .state)) ≡ byAnswer g f (actAnswer t (decodeState b))
       by-act d e =
           ap (byAnswer g f)
@@ -100,10 +99,10 @@ module _ {B : Type 0} (v : B) (g : ℕ → B) (r : Step) where
       unfolding byAnswer
       act-refused why n e h q = q ∙ ap g h ∙ by-act (Refused why) e
 
-      pub act-acted : (c : ℕ) → r .decision ≡ decisions.Acted c → v ≡ f (record { action = c; state = r .state })
+      pub act-acted : (c : ℕ) → r .decision ≡ Acted c → v ≡ f (record { action = c; state = r .state })
           → v ≡ byAnswer g f (actAnswer t (decodeState b))
       unfolding byAnswer
-      act-acted c e q = q ∙ by-act (decisions.Acted c) e
+      act-acted c e q = q ∙ by-act (Acted c) e
 
       pub act-never : r .decision ≡ Accepted → v ≡ g 0 → v ≡ byAnswer g f (actAnswer t (decodeState b))
       unfolding byAnswer

@@ -9,7 +9,7 @@ use Rattle.theory.specs.Exact.{none, some}
 use Rattle.theory.proofs.Answer.{check-passed, check-failed}
 use Rattle.table.specs.TableSheet.{TableSheet}
 use Rattle.state.specs.State.{agrees, lastTurn, slotAt, stateOk, observed, actedState}
-use Rattle.controller.specs.Controller.{observeWith, obey, nextAction, reported, actWith}
+use Rattle.controller.specs.Controller.{observeWith, obey, nextAction, neededKnown, actWith}
 use Rattle.state.specs.declared.state.State.{State}
 
 module _ (x : TableSheet) (s : State) (k p : ℕ) where
@@ -63,12 +63,12 @@ module _ (x : TableSheet) (s : State) where
     act-15 e = check-passed _ 20 _ good ∙ check-failed _ 15 _ (ap not (eq-eqb (s .turn) lastTurn e))
 
     module _ (more : s .turn ≡ lastTurn → ⊥) where
-      pub act-13 : reported x s ≡ false → actWith x s ≡ refused 13
+      pub act-13 : neededKnown x s ≡ false → actWith x s ≡ refused 13
       unfolding actWith
       act-13 r =
           check-passed _ 20 _ good ∙ check-passed _ 15 _ (ap not (ne-eqb (s .turn) lastTurn more)) ∙ check-failed _ 13 _ r
 
-      module _ (r : reported x s ≡ true) where
+      module _ (r : neededKnown x s ≡ true) where
         act-obeys : actWith x s ≡ obey x s (nextAction x s)
         unfolding actWith
         act-obeys =
