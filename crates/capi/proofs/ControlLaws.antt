@@ -9,16 +9,15 @@ use borrow.Author.Needs.{needs}
 use borrow.Author.Tests.{leb-true}
 use Rattle.theory.specs.Answer.{Answer, refused, accepted}
 use Rattle.theory.proofs.Fold.{both-left}
-use Rattle.theory.proofs.Answer.{check-accepted, accepted-on}
 use Rattle.sheet.specs.Refusals.{numberOf}
 use Rattle.sheet.specs.declared.refusal.Refusal.{Refusal}
-use Rattle.table.specs.TableSheet.{tableAnswer}
 use Rattle.state.specs.State.{lastTurn, stateOk}
 use Rattle.state.specs.StateBytes.{decodeState, slotFilled}
 use Rattle.state.specs.declared.state.State.{State}
-use Rattle.controller.specs.Controller.{TurnTaken, observeWith, observeAnswer, actAnswer}
+use Rattle.controller.specs.Controller.{TurnTaken, observeAnswer, actAnswer}
 use Rattle.controller.specs.Accuracy.{Response, accepts, acts, refuses, observe, act, Reply, afterObserving, afterActing, reply}
 use Rattle.controller.specs.Meaning.{responseOf, stepMeans}
+use Rattle.controller.proofs.Answers.{observe-accepted}
 use Rattle.controller.specs.declared.calls.Decision.{Decision}
 use Rattle.controller.specs.declared.calls.Decision.the-variants.{Accepted, Acted, Refused}
 use Rattle.controller.specs.declared.calls.Step.{Step}
@@ -77,14 +76,14 @@ module _ {B : Type 0} (v : B) (g : ℕ → B) (r : Step) where
       observe-told : stepMeans r ≡ reply t (decodeState b) (observe k p)
       observe-told = told ∙ ap (λ (s : State). reply t s (observe k p)) decoded
 
-      pub observe-refused : (why : Refusal) (n : ℕ) → r .decision ≡ Refused why → n ≡ numberOf why → v ≡ g n → v ≡ byAnswer g f observation
-      observe-refused = open-refused f (decodeState b) observation observe-told
+      pub observing-refused : (why : Refusal) (n : ℕ) → r .decision ≡ Refused why → n ≡ numberOf why → v ≡ g n → v ≡ byAnswer g f observation
+      observing-refused = open-refused f (decodeState b) observation observe-told
 
-      pub observe-accepted : r .decision ≡ Accepted → v ≡ f (r .state) → v ≡ byAnswer g f observation
-      observe-accepted = open-accepted f (decodeState b) observation observe-told
+      pub observing-accepted : r .decision ≡ Accepted → v ≡ f (r .state) → v ≡ byAnswer g f observation
+      observing-accepted = open-accepted f (decodeState b) observation observe-told
 
-      pub observe-never : (c : ℕ) → r .decision ≡ Acted c → v ≡ g 0 → v ≡ byAnswer g f observation
-      observe-never = open-never f (decodeState b) observation observe-told
+      pub observing-never : (c : ℕ) → r .decision ≡ Acted c → v ≡ g 0 → v ≡ byAnswer g f observation
+      observing-never = open-never f (decodeState b) observation observe-told
 
     module _ (f : TurnTaken → B) (told : stepMeans r ≡ reply t s act) where
       by-act : (d : Decision) → r .decision ≡ d → byAnswer g f (actedIn (responseOf d) (r .state)) ≡ byAnswer g f (actAnswer t (decodeState b))
@@ -117,21 +116,15 @@ module _ (t : List ℕ) (s : State) (k p : ℕ) (r : Step) (told : stepMeans r �
       ∙ ap (λ (q : Reply). answerIn (q .response) (q .state)) (sym told)
       ∙ ap (λ d. answerIn (responseOf d) (r .state)) e
 
-  facts : (s .turn ≤ lastTurn) × (k ≤ 2 * s .turn)
-  unfolding observeAnswer observeWith stateOk
-  facts =
-      let a = accepted-on (tableAnswer t) _ is-accepted in
-      let b = check-accepted _ 20 _ (a .2) in
-      let c = check-accepted _ 16 _ (b .1) in
-      let d = check-accepted _ 17 _ (c .1) in
-      let f = check-accepted _ 18 _ (d .1) in
-      (leb-true (s .turn) lastTurn (both-left _ _ (b .0)), leb-true k (2 * s .turn) (f .0))
-
   pub newest-fits : Fits w64 (2 * s .turn)
-  newest-fits = record { fits = omega (arith, facts .0) }
+  unfolding stateOk
+  newest-fits =
+      let o = observe-accepted t s k p (r .state) is-accepted in
+      let few = leb-true (s .turn) lastTurn (both-left _ _ (o .2 .good)) in
+      record { fits = omega (arith, few) }
 
   pub index-within : k ≤ 2 * s .turn
-  index-within = facts .1
+  index-within = observe-accepted t s k p (r .state) is-accepted .2 .not-new
 
 pub filled-is : (b u : List ℕ) (s : State) (k p : ℕ) → s ≡ decodeState b → u ≡ slotFilled b (2 * s .turn - k) p
     → u ≡ slotFilled b (2 * decodeState b .turn - k) p
@@ -139,6 +132,6 @@ filled-is b u s k p decoded e = e ∙ ap (λ (s : State). slotFilled b (2 * s .t
 
 pub ruleset opens = (needs, open-refused, open-accepted, open-never)
 
-pub ruleset observes = (needs, observe-refused, observe-accepted, observe-never, newest-fits, index-within, filled-is)
+pub ruleset observes = (needs, observing-refused, observing-accepted, observing-never, newest-fits, index-within, filled-is)
 
 pub ruleset acts-laws = (needs, act-refused, act-acted, act-never)

@@ -3,7 +3,7 @@ use Prim.Native.Nat.{ℕ}
 use mathlib.Core.Path.{_≡_, sym, ap, _∙_}
 use mathlib.Core.List.{List, [], _∷_}
 use borrow.Author.Needs.{needs}
-use Rattle.theory.specs.Answer.{Answer, refused, accepted}
+use Rattle.theory.specs.Answer.{Answer, accepted}
 use Rattle.theory.specs.Delay.{wins, losing}
 use Rattle.sheet.specs.Limits.{width}
 use Rattle.sheet.specs.Form.{placedAt, partAt, bodyOf}

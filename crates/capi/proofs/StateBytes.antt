@@ -1,6 +1,6 @@
 -- Calls over a state's bytes are the calls of the controller's claim (demand 3, in claims/proofs/Accuracy.antt), and a repeat changes no
 -- byte. Assumes nothing.
-use Prim.Native.Nat.{ℕ, _+_, _-_, _*_, _≤_, _<_}
+use Prim.Native.Nat.{ℕ, _-_, _*_, _≤_, _<_}
 use mathlib.Core.Path.{_≡_, refl, _∙_, ap, subst}
 use mathlib.Core.Bool.{true}
 use mathlib.Core.List.{List, [], _∷_}
@@ -18,8 +18,9 @@ use Rattle.state.specs.StateBytes.{stateBytes, decodeState, slotBytes, encodeSt
 use Rattle.state.proofs.RoundTrip.{HasBytes, decode-encode}
 use Rattle.state.proofs.Repeat.{repeat-bytes, decode-filled, length-filled}
 use Rattle.state.specs.declared.state.State.{State}
-use Rattle.controller.specs.Controller.{TurnTaken, observeWith, obey, nextAction, actWith, openAnswer, observeAnswer, actAnswer}
+use Rattle.controller.specs.Controller.{TurnTaken, obey, nextAction, actWith, openAnswer, observeAnswer, actAnswer}
 use Rattle.controller.specs.Accuracy.{Call, observe, act, acts, Progress, afterObserving, afterActing, reply, callStep, runCalls}
+use Rattle.controller.proofs.Answers.{observe-accepted}
 use Rattle.controller.proofs.CallLaws.{usable}
 use Rattle.capi.specs.Exported.{byAnswer, numberFor, written}
 use Rattle.capi.specs.Controlled.{bytesOpened, actionAfter, callNumber, responseNumber, bytesAfter, runBytes}
@@ -73,18 +74,11 @@ act-follows b (accepted g) f = decode-encode (g .state) (f g refl)
 -- an accepted observation of any bytes of a state: filling its slot gives the observed state
 filled-follows : (t b : List ℕ) (k p : ℕ) (n : State) → length b ≡ stateBytes → observeAnswer t (decodeState b) k p ≡ accepted n
     → decodeState (slotFilled b (2 * decodeState b .turn - k) p) ≡ n
-unfolding observeAnswer observeWith
 filled-follows t b k p n long e =
-    let a = accepted-on (tableAnswer t) _ e in
-    let c = check-accepted _ 20 _ (a .2) in
-    let d = check-accepted _ 16 _ (c .1) in
-    let f = check-accepted _ 17 _ (d .1) in
-    let g = check-accepted _ 18 _ (f .1) in
-    let h = check-accepted _ 19 _ (g .1) in
-    let short = usable t (a .0) (a .1) .short-delay in
-    let old = leb-true (2 * decodeState b .turn) (k + a .0 .delay) (f .0) in
-    let slot : 2 * decodeState b .turn - k < slots = omega (arith, short, old) in
-    decode-filled b (2 * decodeState b .turn - k) p long slot (h .0) ∙ accepted-same (h .1)
+    let o = observe-accepted t (decodeState b) k p n e in
+    let short = usable t (o .0) (o .1) .short-delay in
+    let slot : 2 * decodeState b .turn - k < slots = omega (arith, short, o .2 .not-old) in
+    decode-filled b (2 * decodeState b .turn - k) p long slot (o .2 .same) ∙ o .3
 
 -- for any bytes of a state: what a call leaves decodes to the state that the controller's call leaves
 pub bytes-follow : (t b : List ℕ) (c : Call) → length b ≡ stateBytes → decodeState (bytesAfter t b c) ≡ reply t (decodeState b) c .state

@@ -21,7 +21,7 @@ use Rattle.theory.specs.Strategy.{initialLength}
 use Rattle.theory.specs.Table.{flagged}
 use Rattle.theory.specs.Exact.{some, leastFlagged, lowestIn, actionAt}
 use Rattle.theory.proofs.Fold.{both-left, both-right, either-left, all-at, below?, failed, passed}
-use Rattle.theory.proofs.Answer.{check-accepted, accepted-on}
+use Rattle.theory.proofs.Answer.{accepted-same, check-accepted, accepted-on}
 use Rattle.theory.proofs.Masks.{lowest-acts, lowest-missing, lowest-trailing}
 use Rattle.sheet.specs.Limits.{mostActions, mostDelay}
 use Rattle.sheet.specs.Form.{partAt}
@@ -225,9 +225,6 @@ pub ruleset act-laws = (needs, turn-fits, turn-left, acts-20, acts-15, acts-earl
 
 -- a readable sheet
 
-accepted-same : {A : Type 0} {x y : A} → accepted x ≡ accepted y → x ≡ y
-accepted-same e = cc
-
 -- what an accepted reading says of the numbers and the masks
 pub usable : (t : List ℕ) (x : TableSheet) → tableAnswer t ≡ accepted x → Usable x
 unfolding tableAnswer shapeAnswer numbersOk bodiesOk bytesBelow belowAt
@@ -265,43 +262,43 @@ observe-any l f m s k p = refl
 
 module _ (t : List ℕ) (y : TableReading) (ey : tableReadingMeans t y ≡ tableAnswer t) where
   module _ (l : TableLayout) (el : y ≡ table.Accepted l) where
-    answers : tableAnswer t ≡ accepted (tableAt t l)
-    answers = sym ey ∙ ap (tableReadingMeans t) el
+    readable : tableAnswer t ≡ accepted (tableAt t l)
+    readable = sym ey ∙ ap (tableReadingMeans t) el
 
     pub read-usable : (f m : List ℕ) → f ≡ partAt t (l .flags) → m ≡ partAt t (l .masks) → Usable (says l f m)
-    read-usable f m ef em = rw (ef, em) (usable t (tableAt t l) answers)
+    read-usable f m ef em = rw (ef, em) (usable t (tableAt t l) readable)
 
     pub read-short : l .delay ≤ mostDelay
-    read-short = usable t (tableAt t l) answers .short-delay
+    read-short = usable t (tableAt t l) readable .short-delay
 
-    pub opens : (r : Step) (s : State) → s ≡ opened → r ≡ step Accepted s → stepMeans r ≡ openReply t
+    pub opens-read : (r : Step) (s : State) → s ≡ opened → r ≡ step Accepted s → stepMeans r ≡ openReply t
     unfolding openAnswer onAccepted
-    opens r s o q = ap stepMeans q ∙ ap (λ s. stepMeans (step Accepted s)) o ∙ rw answers
+    opens-read r s o q = ap stepMeans q ∙ ap (λ s. stepMeans (step Accepted s)) o ∙ rw readable
 
-    pub observing : (r : Step) (s : State) (k p : ℕ) → stepMeans r ≡ afterObserving s (observeWith (says l [] []) s k p)
+    pub observes-read : (r : Step) (s : State) (k p : ℕ) → stepMeans r ≡ afterObserving s (observeWith (says l [] []) s k p)
         → stepMeans r ≡ reply t s (observe k p)
     unfolding observeAnswer onAccepted
-    observing r s k p q = q ∙ ap (afterObserving s) (observe-any l (partAt t (l .flags)) (partAt t (l .masks)) s k p) ∙ rw answers
+    observes-read r s k p q = q ∙ ap (afterObserving s) (observe-any l (partAt t (l .flags)) (partAt t (l .masks)) s k p) ∙ rw readable
 
-    pub acts : (r : Step) (s : State) (f m : List ℕ) → f ≡ partAt t (l .flags) → m ≡ partAt t (l .masks)
+    pub acts-read : (r : Step) (s : State) (f m : List ℕ) → f ≡ partAt t (l .flags) → m ≡ partAt t (l .masks)
         → stepMeans r ≡ afterActing s (actWith (says l f m) s) → stepMeans r ≡ reply t s act
     unfolding actAnswer onAccepted
-    acts r s f m ef em q = q ∙ ap₂ (λ f m. afterActing s (actWith (says l f m) s)) ef em ∙ rw answers
+    acts-read r s f m ef em q = q ∙ ap₂ (λ f m. afterActing s (actWith (says l f m) s)) ef em ∙ rw readable
 
   module _ (n : Refusal) (en : y ≡ table.Refused n) where
-    refuses : tableAnswer t ≡ refused (numberOf n)
-    refuses = sym ey ∙ ap (tableReadingMeans t) en
+    unreadable : tableAnswer t ≡ refused (numberOf n)
+    unreadable = sym ey ∙ ap (tableReadingMeans t) en
 
     pub opens-not : (r : Step) (s : State) → s ≡ opened → r ≡ step (Refused n) s → stepMeans r ≡ openReply t
     unfolding openAnswer onAccepted
-    opens-not r s o q = ap stepMeans q ∙ ap (λ s. stepMeans (step (Refused n) s)) o ∙ rw refuses
+    opens-not r s o q = ap stepMeans q ∙ ap (λ s. stepMeans (step (Refused n) s)) o ∙ rw unreadable
 
     pub observe-not : (r : Step) (s : State) (k p : ℕ) → r ≡ step (Refused n) s → stepMeans r ≡ reply t s (observe k p)
     unfolding observeAnswer onAccepted
-    observe-not r s k p q = ap stepMeans q ∙ rw refuses
+    observe-not r s k p q = ap stepMeans q ∙ rw unreadable
 
     pub acts-not : (r : Step) (s : State) → r ≡ step (Refused n) s → stepMeans r ≡ reply t s act
     unfolding actAnswer onAccepted
-    acts-not r s q = ap stepMeans q ∙ rw refuses
+    acts-not r s q = ap stepMeans q ∙ rw unreadable
 
-pub ruleset call-laws = (needs, read-usable, read-short, opens, observing, acts, opens-not, observe-not, acts-not)
+pub ruleset call-laws = (needs, read-usable, read-short, opens-read, observes-read, acts-read, opens-not, observe-not, acts-not)

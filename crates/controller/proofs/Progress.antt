@@ -14,7 +14,7 @@ use Rattle.theory.specs.Fold.{both, either, anyOf}
 use Rattle.theory.specs.Answer.{Answer}
 use Rattle.theory.specs.Game.{Game, Legal}
 use Rattle.theory.specs.Play.{Play, origin, last, index, back, actionsOf, lastActions, Rule, IsRule}
-use Rattle.theory.specs.Table.{Table, flagged, Fits, Judged}
+use Rattle.theory.specs.Table.{Table, flagged}
 use Rattle.theory.specs.Exact.{going, Run, playOf, playBy, actionAt, exactChoice, exact, worked}
 use Rattle.theory.proofs.Fold.{bool, below?, both-true, both-false, either-left, all-below, any-of-cons, length-tabulate, getD-tabulate}
 use Rattle.theory.proofs.Plays.{back-play, play-position}

@@ -1,5 +1,5 @@
 -- What the claim about lists of calls needs of a table sheet, whoever made it. Assumes nothing.
-use Prim.Native.Nat.{ℕ, suc, _≤_}
+use Prim.Native.Nat.{suc, _≤_}
 use mathlib.Core.Path.{_≡_}
 use Rattle.theory.specs.Game.{Game}
 use Rattle.theory.specs.Table.{Fits, Judged}
