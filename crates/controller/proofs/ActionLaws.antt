@@ -137,8 +137,8 @@ bound-end n k w h l =
     let z : n - k ≤ mostHeld = omega arith in
     lt-of-lt-of-le l (pow-le-pow-right (omega arith) z)
 
-product-small : (n k w b A : ℕ) → n ≤ mostHeld → w < 256 ^ (n - k) → b ≡ A → A < 256 → w * b ≤ 16777216 * 256
-product-small n k w b A h l e s = mul-le-mul {n₂ = 16777216} {m₂ = 256} (omega (arith, bound-end n k w h l)) (omega arith)
+product-small : (n k w b A : ℕ) → n ≤ mostHeld → w < 256 ^ (n - k) → b ≡ A → A < 256 → w * b ≤ 256 ^ mostHeld * 256
+product-small n k w b A h l e s = mul-le-mul {n₂ = 256 ^ mostHeld} {m₂ = 256} (omega (arith, bound-end n k w h l)) (omega arith)
 
 pub product-fits : (n k w b A : ℕ) → n ≤ mostHeld → w < 256 ^ (n - k) → b ≡ A → A < 256 → Fits w64 (w * b)
 product-fits n k w b A h l e s = record { fits = omega (arith, product-small n k w b A h l e s) }

@@ -1,5 +1,5 @@
 -- Decoding what was encoded gives the state back. Assumes nothing.
-use Prim.Native.Nat.{ℕ, _/_, _%_, _<_}
+use Prim.Native.Nat.{ℕ, _/_, _%_, _^_, _<_}
 use mathlib.Core.Path.{_≡_, refl}
 use mathlib.Core.Bool.{Bool, true, false, not, cond}
 use mathlib.Core.List.{List, [], _∷_}
@@ -14,13 +14,13 @@ use Rattle.state.specs.declared.state.State.{State}
 
 -- a state that has bytes: a turn of four bytes, three held actions, seven slots
 pub record HasBytes (s : State) : Type 0 where
-  pub short-turn : s .turn < 4294967296
+  pub short-turn : s .turn < 256 ^ 4
   pub all-held : length (s .last) ≡ mostHeld
   pub all-slots : length (s .window) ≡ slots
 
 -- decoding what was encoded
 
-turn-back : (t : ℕ) → t < 4294967296 → turnFrom (t % 256) (t / 256 % 256) (t / 256 / 256 % 256) (t / 256 / 256 / 256 % 256) ≡ t
+turn-back : (t : ℕ) → t < 256 ^ 4 → turnFrom (t % 256) (t / 256 % 256) (t / 256 / 256 % 256) (t / 256 / 256 / 256 % 256) ≡ t
 unfolding turnFrom
 turn-back t h = omega arith
 
