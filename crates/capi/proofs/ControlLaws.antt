@@ -9,21 +9,18 @@ use borrow.Author.Needs.{needs}
 use borrow.Author.Tests.{leb-true}
 use Rattle.theory.specs.Answer.{Answer, refused, accepted}
 use Rattle.theory.proofs.Fold.{both-left}
-use Rattle.theory.proofs.Answer.{check-accepted, accepted-on}
-use Rattle.sheet.specs.Refusals.{numberOf}
-use Rattle.sheet.specs.declared.refusal.Refusal.{Refusal}
-use Rattle.table.specs.TableSheet.{tableAnswer}
 use Rattle.state.specs.State.{lastTurn, stateOk}
 use Rattle.state.specs.StateBytes.{decodeState, slotFilled}
 use Rattle.state.specs.declared.state.State.{State}
-use Rattle.controller.specs.Controller.{Acted, observeWith, observeAnswer, actAnswer}
+use Rattle.controller.specs.Controller.{TurnTaken, observeAnswer, actAnswer}
 use Rattle.controller.specs.Accuracy.{Response, accepts, acts, refuses, observe, act, Reply, afterObserving, afterActing, reply}
 use Rattle.controller.specs.Meaning.{responseOf, stepMeans}
+use Rattle.controller.proofs.Answers.{observe-accepted}
 use Rattle.controller.specs.declared.calls.Decision.{Decision}
-use Rattle.controller.specs.declared.calls.Decision.the-variants.{Accepted, Refused}
-use Rattle.controller.specs.declared.calls.Decision.the-variants as decisions
+use Rattle.controller.specs.declared.calls.Decision.the-variants.{Accepted}
 use Rattle.controller.specs.declared.calls.Step.{Step}
 use Rattle.capi.specs.Exported.{byAnswer}
+use Rattle.capi.proofs.ExportLaws.{by-refused, by-accepted}
 
 -- the answer that a reply came from; the last case of each is never one
 
@@ -32,7 +29,7 @@ answerIn accepts s = accepted s
 answerIn (refuses n) s = refused n
 answerIn (acts c) s = refused 0
 
-abbrev actedIn : Response → State → Answer Acted
+abbrev actedIn : Response → State → Answer TurnTaken
 actedIn (acts c) s = accepted (record { action = c; state = s })
 actedIn (refuses n) s = refused n
 actedIn accepts s = refused 0
@@ -41,73 +38,36 @@ answer-in : (s : State) (a : Answer State) → answerIn (afterObserving s a .res
 answer-in s (refused n) = refl
 answer-in s (accepted x) = refl
 
-acted-in : (s : State) (a : Answer Acted) → actedIn (afterActing s a .response) (afterActing s a .state) ≡ a
+acted-in : (s : State) (a : Answer TurnTaken) → actedIn (afterActing s a .response) (afterActing s a .state) ≡ a
 acted-in s (refused n) = refl
 acted-in s (accepted x) = refl
 
--- what a C caller gets, by the cases of the decision; a is the answer
+-- from the case d of the decision to the answer a; the state s is what the bytes b mean
 
-module _ {B : Type 0} (v : B) (g : ℕ → B) (r : Step) where
-  module _ (f : State → B) (s : State) (a : Answer State) (told : stepMeans r ≡ afterObserving s a) where
-    by-reply : (d : Decision) → r .decision ≡ d → byAnswer g f (answerIn (responseOf d) (r .state)) ≡ byAnswer g f a
-    by-reply d e =
-        ap (byAnswer g f)
-        (ap (λ d. answerIn (responseOf d) (r .state)) (sym e)
-        ∙ ap (λ (q : Reply). answerIn (q .response) (q .state)) told
-        ∙ answer-in s a)
-
-    pub open-refused : (why : Refusal) (n : ℕ) → r .decision ≡ Refused why → n ≡ numberOf why → v ≡ g n → v ≡ byAnswer g f a
-    unfolding byAnswer
-    open-refused why n e h q = q ∙ ap g h ∙ by-reply (Refused why) e
-
-    pub open-accepted : r .decision ≡ Accepted → v ≡ f (r .state) → v ≡ byAnswer g f a
-    unfolding byAnswer
-    open-accepted e q = q ∙ by-reply Accepted e
-
-    pub open-never : (c : ℕ) → r .decision ≡ decisions.Acted c → v ≡ g 0 → v ≡ byAnswer g f a
-    unfolding byAnswer
-    open-never c e q = q ∙ by-reply (decisions.Acted c) e
-
-  -- the state s is what the bytes b mean
+module _ {B : Type 0} (v : B) (g : ℕ → B) (r : Step) (d : Decision) (e : r .decision ≡ d) where
+  pub by-opening : (f : State → B) (s : State) (a : Answer State) → stepMeans r ≡ afterObserving s a
+      → v ≡ byAnswer g f (answerIn (responseOf d) (r .state)) → v ≡ byAnswer g f a
+  by-opening f s a told q =
+      q
+      ∙ ap (byAnswer g f)
+      (ap (λ d. answerIn (responseOf d) (r .state)) (sym e)
+      ∙ ap (λ (q : Reply). answerIn (q .response) (q .state)) told
+      ∙ answer-in s a)
 
   module _ (t b : List ℕ) (s : State) (decoded : s ≡ decodeState b) where
-    module _ (f : State → B) (k p : ℕ) (told : stepMeans r ≡ reply t s (observe k p)) where
-      abbrev observation : Answer State
-      observation = observeAnswer t (decodeState b) k p
+    pub by-observing : (f : State → B) (k p : ℕ) → stepMeans r ≡ reply t s (observe k p)
+        → v ≡ byAnswer g f (answerIn (responseOf d) (r .state)) → v ≡ byAnswer g f (observeAnswer t (decodeState b) k p)
+    by-observing f k p told =
+        by-opening f (decodeState b) (observeAnswer t (decodeState b) k p) (told ∙ ap (λ (s : State). reply t s (observe k p)) decoded)
 
-      observe-told : stepMeans r ≡ reply t (decodeState b) (observe k p)
-      observe-told = told ∙ ap (λ (s : State). reply t s (observe k p)) decoded
-
-      pub observe-refused : (why : Refusal) (n : ℕ) → r .decision ≡ Refused why → n ≡ numberOf why → v ≡ g n → v ≡ byAnswer g f observation
-      observe-refused = open-refused f (decodeState b) observation observe-told
-
-      pub observe-accepted : r .decision ≡ Accepted → v ≡ f (r .state) → v ≡ byAnswer g f observation
-      observe-accepted = open-accepted f (decodeState b) observation observe-told
-
-      pub observe-never : (c : ℕ) → r .decision ≡ decisions.Acted c → v ≡ g 0 → v ≡ byAnswer g f observation
-      observe-never = open-never f (decodeState b) observation observe-told
-
-    module _ (f : Acted → B) (told : stepMeans r ≡ reply t s act) where
-      by-act : (d : Decision) → r .decision ≡ d → byAnswer g f (actedIn (responseOf d) (r .state)) ≡ byAnswer g f (actAnswer t (decodeState b))
-      by-act d e =
-          ap (byAnswer g f)
-          (ap (λ d. actedIn (responseOf d) (r .state)) (sym e)
-          ∙ ap (λ (q : Reply). actedIn (q .response) (q .state)) (told ∙ ap (λ (s : State). reply t s act) decoded)
-          ∙ acted-in (decodeState b) (actAnswer t (decodeState b)))
-
-      pub act-refused : (why : Refusal) (n : ℕ) → r .decision ≡ Refused why → n ≡ numberOf why → v ≡ g n
-          → v ≡ byAnswer g f (actAnswer t (decodeState b))
-      unfolding byAnswer
-      act-refused why n e h q = q ∙ ap g h ∙ by-act (Refused why) e
-
-      pub act-acted : (c : ℕ) → r .decision ≡ decisions.Acted c → v ≡ f (record { action = c; state = r .state })
-          → v ≡ byAnswer g f (actAnswer t (decodeState b))
-      unfolding byAnswer
-      act-acted c e q = q ∙ by-act (decisions.Acted c) e
-
-      pub act-never : r .decision ≡ Accepted → v ≡ g 0 → v ≡ byAnswer g f (actAnswer t (decodeState b))
-      unfolding byAnswer
-      act-never e q = q ∙ by-act Accepted e
+    pub by-acting : (f : TurnTaken → B) → stepMeans r ≡ reply t s act → v ≡ byAnswer g f (actedIn (responseOf d) (r .state))
+        → v ≡ byAnswer g f (actAnswer t (decodeState b))
+    by-acting f told q =
+        q
+        ∙ ap (byAnswer g f)
+        (ap (λ d. actedIn (responseOf d) (r .state)) (sym e)
+        ∙ ap (λ (q : Reply). actedIn (q .response) (q .state)) (told ∙ ap (λ (s : State). reply t s act) decoded)
+        ∙ acted-in (decodeState b) (actAnswer t (decodeState b)))
 
 -- what an accepted observation says of its index: the slot is one of the window
 
@@ -118,28 +78,22 @@ module _ (t : List ℕ) (s : State) (k p : ℕ) (r : Step) (told : stepMeans r �
       ∙ ap (λ (q : Reply). answerIn (q .response) (q .state)) (sym told)
       ∙ ap (λ d. answerIn (responseOf d) (r .state)) e
 
-  facts : (s .turn ≤ lastTurn) × (k ≤ 2 * s .turn)
-  unfolding observeAnswer observeWith stateOk
-  facts =
-      let a = accepted-on (tableAnswer t) _ is-accepted in
-      let b = check-accepted _ 20 _ (a .2) in
-      let c = check-accepted _ 16 _ (b .1) in
-      let d = check-accepted _ 17 _ (c .1) in
-      let f = check-accepted _ 18 _ (d .1) in
-      (leb-true (s .turn) lastTurn (both-left _ _ (b .0)), leb-true k (2 * s .turn) (f .0))
-
   pub newest-fits : Fits w64 (2 * s .turn)
-  newest-fits = record { fits = omega (arith, facts .0) }
+  unfolding stateOk
+  newest-fits =
+      let o = observe-accepted t s k p (r .state) is-accepted in
+      let few = leb-true (s .turn) lastTurn (both-left _ _ (o .2 .good)) in
+      record { fits = omega (arith, few) }
 
   pub index-within : k ≤ 2 * s .turn
-  index-within = facts .1
+  index-within = observe-accepted t s k p (r .state) is-accepted .2 .not-new
 
 pub filled-is : (b u : List ℕ) (s : State) (k p : ℕ) → s ≡ decodeState b → u ≡ slotFilled b (2 * s .turn - k) p
     → u ≡ slotFilled b (2 * decodeState b .turn - k) p
 filled-is b u s k p decoded e = e ∙ ap (λ (s : State). slotFilled b (2 * s .turn - k) p) decoded
 
-pub ruleset opens = (needs, open-refused, open-accepted, open-never)
+pub ruleset opens = (needs, by-refused, by-accepted, by-opening)
 
-pub ruleset observes = (needs, observe-refused, observe-accepted, observe-never, newest-fits, index-within, filled-is)
+pub ruleset observes = (needs, by-refused, by-accepted, by-observing, newest-fits, index-within, filled-is)
 
-pub ruleset acts-laws = (needs, act-refused, act-acted, act-never)
+pub ruleset acts-laws = (needs, by-refused, by-accepted, by-acting)

@@ -1,6 +1,6 @@
 -- Calls over a state's bytes are the calls of the controller's claim (demand 3, in claims/proofs/Accuracy.antt), and a repeat changes no
 -- byte. Assumes nothing.
-use Prim.Native.Nat.{ℕ, _+_, _-_, _*_, _≤_, _<_}
+use Prim.Native.Nat.{ℕ, _-_, _*_, _≤_, _<_}
 use mathlib.Core.Path.{_≡_, refl, _∙_, ap, subst}
 use mathlib.Core.Bool.{true}
 use mathlib.Core.List.{List, [], _∷_}
@@ -13,41 +13,42 @@ use Rattle.theory.specs.Exact.{MaybeAction, none, some}
 use Rattle.theory.proofs.Fold.{both-left}
 use Rattle.theory.proofs.Answer.{refused-not-accepted, accepted-same, check-accepted, accepted-on}
 use Rattle.table.specs.TableSheet.{TableSheet, tableAnswer}
-use Rattle.state.specs.State.{lastTurn, mostHeld, slots, opened, slotAt, stateOk, pushed, shifted, actedState}
+use Rattle.state.specs.State.{lastTurn, slots, opened, slotAt, stateOk, pushed, shifted, actedState}
 use Rattle.state.specs.StateBytes.{stateBytes, decodeState, slotBytes, encodeState, slotFilled}
-use Rattle.state.proofs.RoundTrip.{Held, three-decoded, seven-decoded, decode-encode}
+use Rattle.state.proofs.RoundTrip.{HasBytes, decode-encode}
 use Rattle.state.proofs.Repeat.{repeat-bytes, decode-filled, length-filled}
 use Rattle.state.specs.declared.state.State.{State}
-use Rattle.controller.specs.Controller.{Acted, observeWith, obey, nextAction, actWith, openAnswer, observeAnswer, actAnswer}
+use Rattle.controller.specs.Controller.{TurnTaken, obey, nextAction, actWith, openAnswer, observeAnswer, actAnswer}
 use Rattle.controller.specs.Accuracy.{Call, observe, act, acts, Progress, afterObserving, afterActing, reply, callStep, runCalls}
+use Rattle.controller.proofs.Answers.{observe-accepted}
 use Rattle.controller.proofs.CallLaws.{usable}
 use Rattle.capi.specs.Exported.{byAnswer, numberFor, written}
 use Rattle.capi.specs.Controlled.{bytesOpened, actionAfter, callNumber, responseNumber, bytesAfter, runBytes}
 
 -- the next state of an accepted acting has bytes
 
-module _ (t : List ℕ) (s : State) (three : length (s .last) ≡ mostHeld) (seven : length (s .window) ≡ slots) where
+module _ (t : List ℕ) (s : State) where
   turn-few : (x : TableSheet) → stateOk x s ≡ true → s .turn ≤ lastTurn
   unfolding stateOk
   turn-few x e = leb-true (s .turn) lastTurn (both-left _ _ e)
 
-  acted-state-held : (d a : ℕ) → s .turn ≤ lastTurn → Held (actedState d s a)
+  acted-state-bytes : (d a : ℕ) → s .turn ≤ lastTurn → HasBytes (actedState d s a)
   unfolding pushed shifted tabulate
-  acted-state-held d a few = record { short-turn = omega (arith, few); three = refl; seven = refl }
+  acted-state-bytes d a few = record { short-turn = omega (arith, few); all-held = refl; all-slots = refl }
 
-  obeyed-held : (x : TableSheet) (c : MaybeAction) (g : Acted) → s .turn ≤ lastTurn → obey x s c ≡ accepted g → Held (g .state)
+  obeyed-bytes : (x : TableSheet) (c : MaybeAction) (g : TurnTaken) → s .turn ≤ lastTurn → obey x s c ≡ accepted g → HasBytes (g .state)
   unfolding obey
-  obeyed-held x none g few e = absurd (refused-not-accepted e)
-  obeyed-held x (some a) g few e = subst (λ (g : Acted). Held (g .state)) (accepted-same e) (acted-state-held (x .delay) a few)
+  obeyed-bytes x none g few e = absurd (refused-not-accepted e)
+  obeyed-bytes x (some a) g few e = subst (λ (g : TurnTaken). HasBytes (g .state)) (accepted-same e) (acted-state-bytes (x .delay) a few)
 
-  acted-held : (g : Acted) → actAnswer t s ≡ accepted g → Held (g .state)
+  acted-bytes : (g : TurnTaken) → actAnswer t s ≡ accepted g → HasBytes (g .state)
   unfolding actAnswer actWith
-  acted-held g e =
+  acted-bytes g e =
       let a = accepted-on (tableAnswer t) _ e in
       let b = check-accepted _ 20 _ (a .2) in
       let c = check-accepted _ 15 _ (b .1) in
       let d = check-accepted _ 13 _ (c .1) in
-      obeyed-held (a .0) (nextAction (a .0) s) g (turn-few (a .0) (b .0)) (d .1)
+      obeyed-bytes (a .0) (nextAction (a .0) s) g (turn-few (a .0) (b .0)) (d .1)
 
 -- calls over bytes
 
@@ -64,7 +65,7 @@ unfolding byAnswer
 observe-follows b f (refused n) h = refl
 observe-follows b f (accepted n) h = h n refl
 
-act-follows : (b : List ℕ) (a : Answer Acted) → ((g : Acted) → a ≡ accepted g → Held (g .state))
+act-follows : (b : List ℕ) (a : Answer TurnTaken) → ((g : TurnTaken) → a ≡ accepted g → HasBytes (g .state))
     → decodeState (written (λ g. encodeState (g .state)) a b) ≡ afterActing (decodeState b) a .state
 unfolding byAnswer
 act-follows b (refused n) f = refl
@@ -73,24 +74,17 @@ act-follows b (accepted g) f = decode-encode (g .state) (f g refl)
 -- an accepted observation of any bytes of a state: filling its slot gives the observed state
 filled-follows : (t b : List ℕ) (k p : ℕ) (n : State) → length b ≡ stateBytes → observeAnswer t (decodeState b) k p ≡ accepted n
     → decodeState (slotFilled b (2 * decodeState b .turn - k) p) ≡ n
-unfolding observeAnswer observeWith
 filled-follows t b k p n long e =
-    let a = accepted-on (tableAnswer t) _ e in
-    let c = check-accepted _ 20 _ (a .2) in
-    let d = check-accepted _ 16 _ (c .1) in
-    let f = check-accepted _ 17 _ (d .1) in
-    let g = check-accepted _ 18 _ (f .1) in
-    let h = check-accepted _ 19 _ (g .1) in
-    let short = usable t (a .0) (a .1) .short-delay in
-    let old = leb-true (2 * decodeState b .turn) (k + a .0 .delay) (f .0) in
-    let slot : 2 * decodeState b .turn - k < slots = omega (arith, short, old) in
-    decode-filled b (2 * decodeState b .turn - k) p long slot (h .0) ∙ accepted-same (h .1)
+    let o = observe-accepted t (decodeState b) k p n e in
+    let short = usable t (o .0) (o .1) .short-delay in
+    let slot : 2 * decodeState b .turn - k < slots = omega (arith, short, o .2 .not-old) in
+    decode-filled b (2 * decodeState b .turn - k) p long slot (o .2 .same) ∙ o .3
 
 -- for any bytes of a state: what a call leaves decodes to the state that the controller's call leaves
 pub bytes-follow : (t b : List ℕ) (c : Call) → length b ≡ stateBytes → decodeState (bytesAfter t b c) ≡ reply t (decodeState b) c .state
 bytes-follow t b (observe k p) long =
     observe-follows b _ (observeAnswer t (decodeState b) k p) (λ n e. filled-follows t b k p n long e)
-bytes-follow t b act long = act-follows b (actAnswer t (decodeState b)) (acted-held t (decodeState b) (three-decoded b) (seven-decoded b))
+bytes-follow t b act long = act-follows b (actAnswer t (decodeState b)) (acted-bytes t (decodeState b))
 
 -- and there are as many of them
 pub bytes-long : (t b : List ℕ) (c : Call) → length b ≡ stateBytes → length (bytesAfter t b c) ≡ stateBytes
@@ -99,7 +93,7 @@ bytes-long t b (observe k p) long = written-is (λ (l : List ℕ). length l ≡ 
 bytes-long t b act long = written-is (λ (l : List ℕ). length l ≡ stateBytes) _ _ b long (λ a. refl)
 
 opened-back : decodeState (encodeState opened) ≡ opened
-opened-back = decode-encode opened (record { short-turn = omega arith; three = refl; seven = refl })
+opened-back = decode-encode opened (record { short-turn = omega arith; all-held = refl; all-slots = refl })
 
 -- an accepted opening leaves bytes that decode to the opened state
 pub open-follows : (t b : List ℕ) → openAnswer t ≡ accepted opened → decodeState (bytesOpened t b) ≡ opened
@@ -128,7 +122,7 @@ unfolding byAnswer
 observe-number s (refused n) = refl
 observe-number s (accepted n) = refl
 
-act-number : (s : State) (a : Answer Acted) → numberFor a ≡ responseNumber (afterActing s a .response)
+act-number : (s : State) (a : Answer TurnTaken) → numberFor a ≡ responseNumber (afterActing s a .response)
 unfolding byAnswer
 act-number s (refused n) = refl
 act-number s (accepted g) = refl
@@ -137,7 +131,7 @@ pub numbers-follow : (t b : List ℕ) (c : Call) → callNumber t b c ≡ respon
 numbers-follow t b (observe k p) = observe-number (decodeState b) (observeAnswer t (decodeState b) k p)
 numbers-follow t b act = act-number (decodeState b) (actAnswer t (decodeState b))
 
-act-action : (s : State) (a : Answer Acted) (c x : ℕ) → afterActing s a .response ≡ acts c → written (λ g. g .action) a x ≡ c
+act-action : (s : State) (a : Answer TurnTaken) (c x : ℕ) → afterActing s a .response ≡ acts c → written (λ g. g .action) a x ≡ c
 unfolding byAnswer
 act-action s (refused n) c x e = let z : _≡_ {A = ℕ} 0 1 = cc in absurd (omega arith)
 act-action s (accepted g) c x e = cc

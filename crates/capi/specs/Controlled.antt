@@ -5,7 +5,7 @@ use mathlib.Core.List.{List, [], _∷_}
 use Rattle.theory.specs.Answer.{Answer}
 use Rattle.state.specs.StateBytes.{decodeState, encodeState, slotFilled}
 use Rattle.state.specs.declared.state.State.{State}
-use Rattle.controller.specs.Controller.{Acted, openAnswer, observeAnswer, actAnswer}
+use Rattle.controller.specs.Controller.{TurnTaken, openAnswer, observeAnswer, actAnswer}
 use Rattle.controller.specs.Accuracy.{Call, observe, act, Response, accepts, acts, refuses}
 use Rattle.capi.specs.Exported.{numberFor, written}
 
@@ -13,7 +13,7 @@ use Rattle.capi.specs.Exported.{numberFor, written}
 abbrev pub observing : List ℕ → List ℕ → ℕ → ℕ → Answer State
 observing t b k p = observeAnswer t (decodeState b) k p
 
-abbrev pub acting : List ℕ → List ℕ → Answer Acted
+abbrev pub acting : List ℕ → List ℕ → Answer TurnTaken
 acting t b = actAnswer t (decodeState b)
 
 -- opening leaves the opened state's bytes

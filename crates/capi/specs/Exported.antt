@@ -37,7 +37,7 @@ placesAfter s places =
     ∷ l .targets .at ∷ l .targets .size ∷ l .moves .at ∷ l .moves .size ∷ [])
     (readAnswer s) places
 
--- the losing delay; 255 where the asked one wins
+-- the losing delay; 255, LQ_WINS, where the asked one wins
 abbrev pub losingNumber : Verdict → ℕ
 losingNumber wins = 255
 losingNumber (losing m) = m

@@ -12,6 +12,9 @@ ghost use Rattle.sheet.specs.Reading.{readAnswer};
 ghost use Rattle.solver.specs.Solving.{solving, masksSolved, ranksSolved};
 ghost use Rattle.capi.specs.Exported.{numberFor, headerAfter, placesAfter, losingAfter};
 
+// What stands for the losing delay where the asked one wins (LQ_WINS).
+pub(crate) const WINS: u8 = 255;
+
 #[no_mangle]
 pub extern "C" fn lq_read(sheet: &[u8], header: &mut [u8; 3], places: &mut [usize; 8]) -> u8
     ensures number { λ r. ⌜ r ≡ numberFor (readAnswer (now (sheet .entry))) ⌝ }
@@ -48,7 +51,7 @@ pub extern "C" fn lq_solve(sheet: &[u8], masks: &mut [u8], ranks: &mut [u16], lo
     match solution {
         Solution::Refused(number) => number,
         Solution::Winning(_) => {
-            *losing = 255;
+            *losing = WINS;
             0
         }
         Solution::Losing(m, _) => {

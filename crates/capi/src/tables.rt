@@ -1,4 +1,5 @@
 // Making sheets and reading a table sheet for C and Rust callers. Every function takes any bytes and any lengths.
+use crate::WINS;
 use maker::making::Making;
 use maker::making::make;
 use sheet::form::placed;
@@ -37,7 +38,7 @@ pub extern "C" fn lq_make(
         Making::Refused(reason) => reason,
         Making::Winning(n) => {
             *size = n;
-            *losing = 255;
+            *losing = WINS;
             0
         }
         Making::Losing(m, n) => {

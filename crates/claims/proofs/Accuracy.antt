@@ -14,7 +14,7 @@ use Rattle.maker.specs.Making.{won, makeAnswer}
 use Rattle.maker.proofs.Readable.{tableFor, made-says}
 use Rattle.maker.proofs.Made.{making-won}
 use Rattle.controller.specs.Accuracy.{Call, begun, Truthful, Accurate}
-use Rattle.controller.proofs.Progress.{Sound}
+use Rattle.controller.specs.Sound.{Sound}
 use Rattle.controller.proofs.Accuracy.{accurate}
 
 -- the made sheet of a winning game is sound for it

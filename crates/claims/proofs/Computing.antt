@@ -8,7 +8,7 @@ use Rattle.writer.specs.SheetBytes.{headerOf, tableBytes, tableSheet, rankSheet
 use Rattle.maker.specs.Making.{tableSheetOf, rankSheetOf, madeOf, outputSize, makeAnswer}
 use Rattle.table.specs.TableSheet.{tableLayout, decode, tableNodes, numbersOk, belowAt, bytesBelow, bodiesOk, shapeAnswer, someFlagged, tableAnswer}
 use Rattle.state.specs.State.{slotAt, agrees, heldAt, withinAt, heldOk, windowOk, stateOk, pushed, shiftedAt, shifted}
-use Rattle.controller.specs.Controller.{observeWith, wordOf, obey, nextAction, reported, actWith, openAnswer, observeAnswer, actAnswer}
+use Rattle.controller.specs.Controller.{observeWith, wordOf, obey, nextAction, neededKnown, actWith, openAnswer, observeAnswer, actAnswer}
 
 unfoldable pub solving-computes : Bool
 unfolding solveAnswer
@@ -27,7 +27,7 @@ unfolding slotAt agrees heldAt withinAt heldOk windowOk stateOk pushed shiftedAt
 states-compute = true
 
 unfoldable pub calls-compute : Bool
-unfolding observeWith wordOf obey nextAction reported actWith openAnswer observeAnswer actAnswer
+unfolding observeWith wordOf obey nextAction neededKnown actWith openAnswer observeAnswer actAnswer
 calls-compute = true
 
 unfoldable pub claims-compute : Bool

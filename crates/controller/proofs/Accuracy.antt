@@ -15,7 +15,8 @@ use Rattle.table.specs.TableSheet.{TableSheet, decode, shapeAnswer, someFlagged
 use Rattle.state.specs.State.{opened}
 use Rattle.controller.specs.Controller.{openAnswer, observeAnswer, actAnswer}
 use Rattle.controller.specs.Accuracy.{Call, observe, act, reply, Progress, begun, turnOf, callStep, runCalls, IsTrue, Truthful, Answered, GoesSafely, Accurate}
-use Rattle.controller.proofs.Progress.{Sound, goes, Follows, begins, Right, observe-right, act-right}
+use Rattle.controller.specs.Sound.{Sound}
+use Rattle.controller.proofs.Progress.{goes, Follows, begins, Right, observe-right, act-right}
 
 -- a readable sheet has a flagged word
 some-word : (t : List ℕ) (x : TableSheet) → tableAnswer t ≡ accepted x → (v : ℕ) × (flagged (x .table) v ≡ true)

@@ -3,7 +3,7 @@
 use Prim.Native.Nat.{ℕ, zero, suc, _+_, _-_, _*_, _/_, _%_, _^_, _≤_, _<_}
 use mathlib.Core.Path.{_≡_, refl, sym, _∙_, ap, ap₂}
 use mathlib.Core.Bool.{Bool, true, false, not}
-use mathlib.Core.List.{List, []}
+use mathlib.Core.List.{List}
 use native.Mathlib.Omega.{arith}
 use native.Mathlib.Nat.{lt-of-lt-of-le, mul-le-mul, mod-lt, pow-le-pow-right}
 use native.Mathlib.Numerals.{add-one}
@@ -13,31 +13,25 @@ use lib.Seq.{length-take-le, drop-cons, getD-take}
 use mir.Syntax.{w8, w64}
 use mir.Val.{Fits}
 use borrow.Author.Needs.{needs}
-use borrow.Author.Tests.{le-ltb, eq-eqb, ne-eqb}
+use borrow.Author.Tests.{le-ltb}
 use Rattle.theory.specs.Fold.{allBelow, firstNot}
 use Rattle.theory.specs.Words.{digit}
-use Rattle.theory.specs.Table.{Table, flagged}
+use Rattle.theory.specs.Table.{flagged}
 use Rattle.theory.specs.Exact.{leastFlagged}
 use Rattle.theory.proofs.Fold.{first, first-suc, first-unique, all-none, all-again, all-at, all-fails}
 use Rattle.theory.proofs.Words.{digit-shorter}
 use Rattle.sheet.specs.Limits.{mostActions, mostDelay, mostPower}
 use Rattle.sheet.specs.code.Steps.{powerTo}
 use Rattle.sheet.proofs.SizeLaws.{power-bound, small-power}
+use Rattle.table.proofs.TableLaws.{wordsOf, flag-none, flag-set}
 use Rattle.state.specs.State.{mostHeld}
 use Rattle.controller.specs.Controller.{wordOf}
 
 -- the least first word
 
-abbrev pub wordsOf : List ℕ → Table
-wordsOf w = record { flags = w; masks = [] }
-
 -- no word before v has a flag
 unfoldable pub noneBefore : List ℕ → ℕ → Bool
 noneBefore w v = allBelow (λ u. not (flagged (wordsOf w) u)) v
-
-flag-set : (w : List ℕ) (v : ℕ) → (getD w v 0 ≡ 0 → ⊥) → not (flagged (wordsOf w) v) ≡ false
-unfolding flagged
-flag-set w v z = rw (ne-eqb (getD w v 0) 0 z)
 
 no-first : (p : ℕ → Bool) (v : ℕ) → v ≡ 0 → v ≡ firstNot p 0
 unfolding firstNot
@@ -49,13 +43,13 @@ module _ (w : List ℕ) where
   none-start = all-none _
 
   pub none-again : (v : ℕ) → noneBefore w v ≡ true → getD w v 0 ≡ 0 → noneBefore w (v + 1) ≡ true
-  unfolding noneBefore flagged
-  none-again v e z = all-again (λ u. not (flagged (wordsOf w) u)) v {r = true} e (rw (eq-eqb (getD w v 0) 0 z)) refl
+  unfolding noneBefore
+  none-again v e z = all-again (λ u. not (flagged (wordsOf w) u)) v {r = true} e (ap not (sym (flag-none w v z))) refl
 
   pub least-found : (v : ℕ) → v + 1 < length w → (getD w v 0 ≡ 0 → ⊥) → noneBefore w v ≡ true → v ≡ leastFlagged (wordsOf w)
   unfolding noneBefore leastFlagged
   least-found v h z e =
-      let fails : not (flagged (wordsOf w) v) ≡ false = flag-set w v z in
+      let fails : not (flagged (wordsOf w) v) ≡ false = ap not (flag-set w v z) in
       first-unique (λ u. not (flagged (wordsOf w) u)) {n = length w} {m = length w}
       (record { below = omega arith; fails = fails; before = all-at (λ u. not (flagged (wordsOf w) u)) v e })
       (first (λ u. not (flagged (wordsOf w) u)) (length w)
@@ -143,8 +137,8 @@ bound-end n k w h l =
     let z : n - k ≤ mostHeld = omega arith in
     lt-of-lt-of-le l (pow-le-pow-right (omega arith) z)
 
-product-small : (n k w b A : ℕ) → n ≤ mostHeld → w < 256 ^ (n - k) → b ≡ A → A < 256 → w * b ≤ 16777216 * 256
-product-small n k w b A h l e s = mul-le-mul {n₂ = 16777216} {m₂ = 256} (omega (arith, bound-end n k w h l)) (omega arith)
+product-small : (n k w b A : ℕ) → n ≤ mostHeld → w < 256 ^ (n - k) → b ≡ A → A < 256 → w * b ≤ 256 ^ mostHeld * 256
+product-small n k w b A h l e s = mul-le-mul {n₂ = 256 ^ mostHeld} {m₂ = 256} (omega (arith, bound-end n k w h l)) (omega arith)
 
 pub product-fits : (n k w b A : ℕ) → n ≤ mostHeld → w < 256 ^ (n - k) → b ≡ A → A < 256 → Fits w64 (w * b)
 product-fits n k w b A h l e s = record { fits = omega (arith, product-small n k w b A h l e s) }

@@ -1,15 +1,17 @@
 -- Laws of specs/Controller.antt: each answer of observing and of acting, with the tests that lead to it. Assumes nothing.
 use Prim.Native.Nat.{ℕ, _+_, _-_, _*_, _≤_, _<_}
-use mathlib.Core.Path.{_≡_, _∙_, ap}
+use mathlib.Core.Path.{_≡_, sym, _∙_, ap}
 use mathlib.Core.Bool.{true, false, not}
+use mathlib.Core.List.{List}
 use native.Mathlib.Omega.{arith}
-use borrow.Author.Tests.{le-leb, lt-leb, eq-eqb, ne-eqb}
+use borrow.Author.Tests.{leb-true, le-leb, lt-leb, eq-eqb, ne-eqb}
 use Rattle.theory.specs.Answer.{refused, accepted}
 use Rattle.theory.specs.Exact.{none, some}
-use Rattle.theory.proofs.Answer.{check-passed, check-failed}
-use Rattle.table.specs.TableSheet.{TableSheet}
+use Rattle.theory.proofs.Answer.{accepted-same, check-passed, check-failed, check-accepted, accepted-on}
+use Rattle.table.specs.TableSheet.{TableSheet, tableAnswer}
 use Rattle.state.specs.State.{agrees, lastTurn, slotAt, stateOk, observed, actedState}
-use Rattle.controller.specs.Controller.{observeWith, obey, nextAction, reported, actWith}
+use Rattle.state.proofs.Repeat.{repeat-same}
+use Rattle.controller.specs.Controller.{observeWith, obey, nextAction, neededKnown, actWith, observeAnswer}
 use Rattle.state.specs.declared.state.State.{State}
 
 module _ (x : TableSheet) (s : State) (k p : ℕ) where
@@ -52,6 +54,43 @@ module _ (x : TableSheet) (s : State) (k p : ℕ) where
           ∙ check-passed _ 18 _ (le-leb k (2 * s .turn) u)
           ∙ check-passed _ 19 _ a
 
+-- what an accepted observation has passed
+pub record Observable (x : TableSheet) (s : State) (k p : ℕ) : Type 0 where
+  pub good : stateOk x s ≡ true
+  pub low : p ≤ x .highest
+  pub not-old : 2 * s .turn ≤ k + x .delay
+  pub not-new : k ≤ 2 * s .turn
+  pub same : agrees (slotAt s (2 * s .turn - k)) p ≡ true
+
+pub observe-accepted : (t : List ℕ) (s : State) (k p : ℕ) (n : State) → observeAnswer t s k p ≡ accepted n
+    → (x : TableSheet) × (tableAnswer t ≡ accepted x) × Observable x s k p × (observed s k p ≡ n)
+unfolding observeAnswer observeWith
+observe-accepted t s k p n e =
+    let a = accepted-on (tableAnswer t) _ e in
+    let b = check-accepted _ 20 _ (a .2) in
+    let c = check-accepted _ 16 _ (b .1) in
+    let d = check-accepted _ 17 _ (c .1) in
+    let f = check-accepted _ 18 _ (d .1) in
+    let g = check-accepted _ 19 _ (f .1) in (
+      a .0,
+      a .1,
+      record {
+        good = b .0;
+        low = leb-true p (a .0 .highest) (c .0);
+        not-old = leb-true (2 * s .turn) (k + a .0 .delay) (d .0);
+        not-new = leb-true k (2 * s .turn) (f .0);
+        same = g .0;
+      },
+      accepted-same (g .1),
+    )
+
+-- "A repeat with the same position is accepted and changes nothing"
+pub repeat-nothing : (t : List ℕ) (s : State) (k p : ℕ) (n : State) → slotAt s (2 * s .turn - k) .known ≡ true
+    → observeAnswer t s k p ≡ accepted n → n ≡ s
+repeat-nothing t s k p n known e =
+    let o = observe-accepted t s k p n e in
+    sym (o .3) ∙ repeat-same s k p known (o .2 .same)
+
 module _ (x : TableSheet) (s : State) where
   pub act-20 : stateOk x s ≡ false → actWith x s ≡ refused 20
   unfolding actWith
@@ -63,12 +102,12 @@ module _ (x : TableSheet) (s : State) where
     act-15 e = check-passed _ 20 _ good ∙ check-failed _ 15 _ (ap not (eq-eqb (s .turn) lastTurn e))
 
     module _ (more : s .turn ≡ lastTurn → ⊥) where
-      pub act-13 : reported x s ≡ false → actWith x s ≡ refused 13
+      pub act-13 : neededKnown x s ≡ false → actWith x s ≡ refused 13
       unfolding actWith
       act-13 r =
           check-passed _ 20 _ good ∙ check-passed _ 15 _ (ap not (ne-eqb (s .turn) lastTurn more)) ∙ check-failed _ 13 _ r
 
-      module _ (r : reported x s ≡ true) where
+      module _ (r : neededKnown x s ≡ true) where
         act-obeys : actWith x s ≡ obey x s (nextAction x s)
         unfolding actWith
         act-obeys =

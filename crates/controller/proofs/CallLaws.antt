@@ -21,7 +21,7 @@ use Rattle.theory.specs.Strategy.{initialLength}
 use Rattle.theory.specs.Table.{flagged}
 use Rattle.theory.specs.Exact.{some, leastFlagged, lowestIn, actionAt}
 use Rattle.theory.proofs.Fold.{both-left, both-right, either-left, all-at, below?, failed, passed}
-use Rattle.theory.proofs.Answer.{check-accepted, accepted-on}
+use Rattle.theory.proofs.Answer.{accepted-same, check-accepted, accepted-on}
 use Rattle.theory.proofs.Masks.{lowest-acts, lowest-missing, lowest-trailing}
 use Rattle.sheet.specs.Limits.{mostActions, mostDelay}
 use Rattle.sheet.specs.Form.{partAt}
@@ -33,7 +33,7 @@ use Rattle.table.specs.declared.reading.TableLayout.{TableLayout}
 use Rattle.table.specs.declared.reading.TableReading.{TableReading}
 use Rattle.table.specs.declared.reading.TableReading.the-variants as table
 use Rattle.state.specs.State.{agrees, lastTurn, unknown, seen, opened, slotAt, heldOk, windowOk, stateOk, pushed, shifted, actedState}
-use Rattle.controller.specs.Controller.{observeWith, wordOf, nextAction, reported, actWith, openAnswer, observeAnswer, actAnswer}
+use Rattle.controller.specs.Controller.{observeWith, wordOf, nextAction, neededKnown, actWith, openAnswer, observeAnswer, actAnswer}
 use Rattle.controller.specs.Accuracy.{observe, act, afterObserving, afterActing, reply}
 use Rattle.controller.specs.Meaning.{stepMeans, openReply}
 use Rattle.controller.specs.code.Usable.{Usable}
@@ -126,20 +126,20 @@ unfolding leastFlagged flagged
 least-any f m = refl
 
 module _ (x : TableSheet) (s : State) where
-  early-report : 2 * s .turn < x .delay → reported x s ≡ true
-  unfolding reported
-  early-report h = either-left _ _ (lt-ltb (2 * s .turn) (x .delay) h)
+  early-known : 2 * s .turn < x .delay → neededKnown x s ≡ true
+  unfolding neededKnown
+  early-known h = either-left _ _ (lt-ltb (2 * s .turn) (x .delay) h)
 
-  late-report : x .delay ≤ 2 * s .turn → reported x s ≡ slotAt s (x .delay) .known
-  unfolding reported either
-  late-report h = rw (le-ltb (2 * s .turn) (x .delay) h)
+  late-known : x .delay ≤ 2 * s .turn → neededKnown x s ≡ slotAt s (x .delay) .known
+  unfolding neededKnown either
+  late-known h = rw (le-ltb (2 * s .turn) (x .delay) h)
 
   early-choice : 2 * s .turn < x .delay
       → nextAction x s ≡ some (digit (x .actions) (initialLength (x .delay)) (leastFlagged (x .table)) (s .turn))
   unfolding nextAction actionAt
   early-choice h = rw (lt-ltb (2 * s .turn) (x .delay) h)
 
-  -- the mask of the needed report's node
+  -- the mask of the needed observation's node
   abbrev mask : ℕ
   mask =
       getD (x .table .masks)
@@ -173,7 +173,7 @@ module _ (l : TableLayout) (f m : List ℕ) (s : State) (r : Step) (b : Bool) (e
             ap stepMeans q
             ∙ ap (afterActing s)
             (sym
-            (act-answers (says l f m) s good t (early-report (says l f m) s o) a (early-choice (says l f m) s o ∙ ap some c)))
+            (act-answers (says l f m) s good t (early-known (says l f m) s o) a (early-choice (says l f m) s o ∙ ap some c)))
 
         module _ (late : v ≤ 2 * s .turn) (w : Slot) (ew : w ≡ getD (s .window) v unknown) where
           o : l .delay ≤ 2 * s .turn
@@ -186,13 +186,13 @@ module _ (l : TableLayout) (f m : List ℕ) (s : State) (r : Step) (b : Bool) (e
           pub acts-13 : not (w .known) ≡ true → r ≡ step (Refused refusal.Unobserved) s
               → stepMeans r ≡ afterActing s (actWith (says l f m) s)
           acts-13 k q =
-              let z = late-report (says l f m) s o ∙ ap (λ (w : Slot). w .known) (sym slot-is) ∙ not-true (w .known) k in
+              let z = late-known (says l f m) s o ∙ ap (λ (w : Slot). w .known) (sym slot-is) ∙ not-true (w .known) k in
               ap stepMeans q ∙ ap (afterActing s) (sym (act-13 (says l f m) s good t z))
 
           module _ (k : not (w .known) ≡ false) (n : ℕ)
               (en : n ≡ getD m (w .position * l .actions ^ (l .delay / 2) + wordOf (l .actions) (take (l .delay / 2) (s .last))) 0) where
-            indices : reported (says l f m) s ≡ true
-            indices = late-report (says l f m) s o ∙ ap (λ (w : Slot). w .known) (sym slot-is) ∙ not-false (w .known) k
+            needed-known : neededKnown (says l f m) s ≡ true
+            needed-known = late-known (says l f m) s o ∙ ap (λ (w : Slot). w .known) (sym slot-is) ∙ not-false (w .known) k
 
             mask-same : mask (says l f m) s ≡ n
             mask-same =
@@ -208,7 +208,7 @@ module _ (l : TableLayout) (f m : List ℕ) (s : State) (r : Step) (b : Bool) (e
             pub acts-14 : n ≡ 0 → r ≡ step (Refused refusal.NoAction) s → stepMeans r ≡ afterActing s (actWith (says l f m) s)
             acts-14 z q =
                 ap stepMeans q
-                ∙ ap (afterActing s) (sym (act-14 (says l f m) s good t indices (action-is ∙ lowest-missing (l .actions) n z)))
+                ∙ ap (afterActing s) (sym (act-14 (says l f m) s good t needed-known (action-is ∙ lowest-missing (l .actions) n z)))
 
             pub acts-late : (a : ℕ) → (n ≡ 0 → ⊥) → Usable (says l f m) → a ≡ trailingZeros 8 n
                 → r ≡ step (Acted a) (actedState (l .delay) s a) → stepMeans r ≡ afterActing s (actWith (says l f m) s)
@@ -218,15 +218,12 @@ module _ (l : TableLayout) (f m : List ℕ) (s : State) (r : Step) (b : Bool) (e
                 ap stepMeans q
                 ∙ ap (afterActing s)
                 (sym
-                (act-answers (says l f m) s good t indices a
+                (act-answers (says l f m) s good t needed-known a
                 (action-is ∙ lowest-acts (l .actions) n z ∙ ap some (sym c ∙ sym ea))))
 
 pub ruleset act-laws = (needs, turn-fits, turn-left, acts-20, acts-15, acts-early, acts-13, acts-14, acts-late)
 
 -- a readable sheet
-
-accepted-same : {A : Type 0} {x y : A} → accepted x ≡ accepted y → x ≡ y
-accepted-same e = cc
 
 -- what an accepted reading says of the numbers and the masks
 pub usable : (t : List ℕ) (x : TableSheet) → tableAnswer t ≡ accepted x → Usable x
@@ -265,43 +262,43 @@ observe-any l f m s k p = refl
 
 module _ (t : List ℕ) (y : TableReading) (ey : tableReadingMeans t y ≡ tableAnswer t) where
   module _ (l : TableLayout) (el : y ≡ table.Accepted l) where
-    answers : tableAnswer t ≡ accepted (tableAt t l)
-    answers = sym ey ∙ ap (tableReadingMeans t) el
+    readable : tableAnswer t ≡ accepted (tableAt t l)
+    readable = sym ey ∙ ap (tableReadingMeans t) el
 
     pub read-usable : (f m : List ℕ) → f ≡ partAt t (l .flags) → m ≡ partAt t (l .masks) → Usable (says l f m)
-    read-usable f m ef em = rw (ef, em) (usable t (tableAt t l) answers)
+    read-usable f m ef em = rw (ef, em) (usable t (tableAt t l) readable)
 
     pub read-short : l .delay ≤ mostDelay
-    read-short = usable t (tableAt t l) answers .short-delay
+    read-short = usable t (tableAt t l) readable .short-delay
 
-    pub opens : (r : Step) (s : State) → s ≡ opened → r ≡ step Accepted s → stepMeans r ≡ openReply t
+    pub opens-read : (r : Step) (s : State) → s ≡ opened → r ≡ step Accepted s → stepMeans r ≡ openReply t
     unfolding openAnswer onAccepted
-    opens r s o q = ap stepMeans q ∙ ap (λ s. stepMeans (step Accepted s)) o ∙ rw answers
+    opens-read r s o q = ap stepMeans q ∙ ap (λ s. stepMeans (step Accepted s)) o ∙ rw readable
 
-    pub observing : (r : Step) (s : State) (k p : ℕ) → stepMeans r ≡ afterObserving s (observeWith (says l [] []) s k p)
+    pub observes-read : (r : Step) (s : State) (k p : ℕ) → stepMeans r ≡ afterObserving s (observeWith (says l [] []) s k p)
         → stepMeans r ≡ reply t s (observe k p)
     unfolding observeAnswer onAccepted
-    observing r s k p q = q ∙ ap (afterObserving s) (observe-any l (partAt t (l .flags)) (partAt t (l .masks)) s k p) ∙ rw answers
+    observes-read r s k p q = q ∙ ap (afterObserving s) (observe-any l (partAt t (l .flags)) (partAt t (l .masks)) s k p) ∙ rw readable
 
-    pub acts : (r : Step) (s : State) (f m : List ℕ) → f ≡ partAt t (l .flags) → m ≡ partAt t (l .masks)
+    pub acts-read : (r : Step) (s : State) (f m : List ℕ) → f ≡ partAt t (l .flags) → m ≡ partAt t (l .masks)
         → stepMeans r ≡ afterActing s (actWith (says l f m) s) → stepMeans r ≡ reply t s act
     unfolding actAnswer onAccepted
-    acts r s f m ef em q = q ∙ ap₂ (λ f m. afterActing s (actWith (says l f m) s)) ef em ∙ rw answers
+    acts-read r s f m ef em q = q ∙ ap₂ (λ f m. afterActing s (actWith (says l f m) s)) ef em ∙ rw readable
 
   module _ (n : Refusal) (en : y ≡ table.Refused n) where
-    refuses : tableAnswer t ≡ refused (numberOf n)
-    refuses = sym ey ∙ ap (tableReadingMeans t) en
+    unreadable : tableAnswer t ≡ refused (numberOf n)
+    unreadable = sym ey ∙ ap (tableReadingMeans t) en
 
     pub opens-not : (r : Step) (s : State) → s ≡ opened → r ≡ step (Refused n) s → stepMeans r ≡ openReply t
     unfolding openAnswer onAccepted
-    opens-not r s o q = ap stepMeans q ∙ ap (λ s. stepMeans (step (Refused n) s)) o ∙ rw refuses
+    opens-not r s o q = ap stepMeans q ∙ ap (λ s. stepMeans (step (Refused n) s)) o ∙ rw unreadable
 
     pub observe-not : (r : Step) (s : State) (k p : ℕ) → r ≡ step (Refused n) s → stepMeans r ≡ reply t s (observe k p)
     unfolding observeAnswer onAccepted
-    observe-not r s k p q = ap stepMeans q ∙ rw refuses
+    observe-not r s k p q = ap stepMeans q ∙ rw unreadable
 
     pub acts-not : (r : Step) (s : State) → r ≡ step (Refused n) s → stepMeans r ≡ reply t s act
     unfolding actAnswer onAccepted
-    acts-not r s q = ap stepMeans q ∙ rw refuses
+    acts-not r s q = ap stepMeans q ∙ rw unreadable
 
-pub ruleset call-laws = (needs, read-usable, read-short, opens, observing, acts, opens-not, observe-not, acts-not)
+pub ruleset call-laws = (needs, read-usable, read-short, opens-read, observes-read, acts-read, opens-not, observe-not, acts-not)

@@ -14,28 +14,20 @@ use Rattle.theory.specs.Fold.{both, either, anyOf}
 use Rattle.theory.specs.Answer.{Answer}
 use Rattle.theory.specs.Game.{Game, Legal}
 use Rattle.theory.specs.Play.{Play, origin, last, index, back, actionsOf, lastActions, Rule, IsRule}
-use Rattle.theory.specs.Table.{Table, flagged, Fits, Judged}
+use Rattle.theory.specs.Table.{Table, flagged}
 use Rattle.theory.specs.Exact.{going, Run, playOf, playBy, actionAt, exactChoice, exact, worked}
 use Rattle.theory.proofs.Fold.{bool, below?, both-true, both-false, either-left, all-below, any-of-cons, length-tabulate, getD-tabulate}
 use Rattle.theory.proofs.Plays.{back-play, play-position}
 use Rattle.theory.proofs.Exact.{Goes, exact-goes}
 use Rattle.table.specs.TableSheet.{TableSheet}
-use Rattle.state.specs.State.{agrees, lastTurn, slots, unknown, seen, slotAt, heldAt, withinAt, heldOk, windowOk, stateOk, observed, pushed, shiftedAt, shifted, actedState}
-use Rattle.controller.specs.Controller.{Acted, observeWith, wordOf, nextAction, reported, actWith}
+use Rattle.state.specs.State.{agrees, lastTurn, mostHeld, slots, unknown, seen, slotAt, heldAt, withinAt, heldOk, windowOk, stateOk, observed, pushed, shiftedAt, shifted, actedState}
+use Rattle.controller.specs.Controller.{TurnTaken, observeWith, wordOf, nextAction, neededKnown, actWith}
+use Rattle.controller.specs.Sound.{Sound}
 use Rattle.controller.specs.Accuracy.{Call, observe, act, Reply, afterObserving, afterActing, Progress, begun, turnOf, after, HasAt, isObserved, toAct, rightAnswer}
 use Rattle.state.specs.declared.state.Slot.{Slot}
 use Rattle.state.specs.declared.state.State.{State}
 use Rattle.controller.proofs.PlayLaws.{word-actions, action-small, further, exact-further, worked-further}
 use Rattle.controller.proofs.Answers.{observe-16, observe-17, observe-18, observe-accepts, act-15, act-13, act-answers}
-
--- what the sheet says is sound for the game: its numbers are the game's, and its table fits and is judged. All that demand 3
--- needs of whoever made it
-pub record Sound (G : Game) (x : TableSheet) : Type 0 where
-  pub actions : x .actions ≡ G .actions
-  pub highest : suc (x .highest) ≡ G .positions
-  pub short-delay : x .delay ≤ 6
-  pub fits : Fits G (x .delay) (x .table)
-  pub judged : Judged G (x .delay) (x .table)
 
 -- a slot that is known exactly if b, and then at position p
 
@@ -79,8 +71,8 @@ module _ (G : Game) (legal : Legal G) (x : TableSheet) (sound : Sound G x) (w : 
     pub acts : s .actions ≡ actionsOf (play (turnOf s))
     pub bound : turnOf s ≤ lastTurn
     pub turn : s .state .turn ≡ turnOf s
-    pub latest-size : length (s .state .last) ≡ 3
-    pub latest : (k : ℕ) → k < 3 → getD (s .state .last) k 0 ≡ getD (s .actions) k 0
+    pub latest-size : length (s .state .last) ≡ mostHeld
+    pub latest : (k : ℕ) → k < mostHeld → getD (s .state .last) k 0 ≡ getD (s .actions) k 0
     pub window-size : length (s .state .window) ≡ slots
     -- a slot of the window is known exactly if its index was observed, and has the position of the exact play
     pub slot : (k : ℕ) → k ≤ x .delay → k ≤ 2 * turnOf s
@@ -108,9 +100,9 @@ module _ (G : Game) (legal : Legal G) (x : TableSheet) (sound : Sound G x) (w : 
         bound = omega arith;
         turn = refl;
         latest-size = refl;
-        latest = λ k h. getD-replicate 3 k 0 0 h;
+        latest = λ k h. getD-replicate mostHeld k 0 0 h;
         window-size = refl;
-        slot = λ k h l. getD-replicate 7 k unknown unknown (omega arith);
+        slot = λ k h l. getD-replicate slots k unknown unknown (omega arith);
         unobserved = λ j h. refl;
       }
 
@@ -120,7 +112,7 @@ module _ (G : Game) (legal : Legal G) (x : TableSheet) (sound : Sound G x) (w : 
   position-small n k = omega (arith, play-position legal (back-play k (goes n .of-game)), sound .highest)
 
   module _ (s : Progress) (f : Follows s) where
-    held-small : (k : ℕ) → k < 3 → k < turnOf s → heldAt (x .actions) (s .state .last) k ≡ true
+    held-small : (k : ℕ) → k < mostHeld → k < turnOf s → heldAt (x .actions) (s .state .last) k ≡ true
     unfolding heldAt
     held-small k h l =
         let a : length (s .actions) ≡ length (actionsOf (play (turnOf s))) = ap length (f .acts) in
@@ -240,13 +232,13 @@ module _ (G : Game) (legal : Legal G) (x : TableSheet) (sound : Sound G x) (w : 
     needed = 2 * turnOf s - x .delay
 
     -- refusal 13's test is that of the claim
-    reported-early : 2 * turnOf s < x .delay → reported x (s .state) ≡ true
-    unfolding reported
-    reported-early l = let t = f .turn in either-left _ _ (lt-ltb (2 * s .state .turn) (x .delay) (omega arith))
+    known-early : 2 * turnOf s < x .delay → neededKnown x (s .state) ≡ true
+    unfolding neededKnown
+    known-early l = let t = f .turn in either-left _ _ (lt-ltb (2 * s .state .turn) (x .delay) (omega arith))
 
-    reported-late : x .delay ≤ 2 * turnOf s → reported x (s .state) ≡ isObserved s needed
-    unfolding reported either
-    reported-late g =
+    known-late : x .delay ≤ 2 * turnOf s → neededKnown x (s .state) ≡ isObserved s needed
+    unfolding neededKnown either
+    known-late g =
         let t = f .turn in
         rw (le-ltb (2 * s .state .turn) (x .delay) (omega arith))
         (slot-known (isObserved s needed) _ _ (f .slot (x .delay) (omega arith) g))
@@ -311,7 +303,7 @@ module _ (G : Game) (legal : Legal G) (x : TableSheet) (sound : Sound G x) (w : 
     abbrev action : ℕ
     action = goes (turnOf s) .action
 
-    pushed-latest : (k : ℕ) → k < 3 → getD (pushed action (s .state .last)) k 0 ≡ getD (action ∷ s .actions) k 0
+    pushed-latest : (k : ℕ) → k < mostHeld → getD (pushed action (s .state .last)) k 0 ≡ getD (action ∷ s .actions) k 0
     unfolding pushed
     pushed-latest zero h = refl
     pushed-latest (suc zero) h = f .latest 0 (omega arith)
@@ -355,17 +347,17 @@ module _ (G : Game) (legal : Legal G) (x : TableSheet) (sound : Sound G x) (w : 
           unobserved = λ j h. f .unobserved j (omega arith);
         }
 
-    abbrev actionsBy : Answer Acted → Type 0
-    actionsBy a = Right s act (afterActing (s .state) a)
+    abbrev RightBy : Answer TurnTaken → Type 0
+    RightBy a = Right s act (afterActing (s .state) a)
 
     -- there is an action where refusals 15 and 13 pass
-    acted-right : turnOf s < lastTurn → reported x (s .state) ≡ true
+    acted-right : turnOf s < lastTurn → neededKnown x (s .state) ≡ true
         → both (leb (x .delay) (2 * turnOf s)) (not (isObserved s needed)) ≡ false
-        → nextAction x (s .state) ≡ exactChoice G (x .delay) (x .table) (play (turnOf s)) → actionsBy (actWith x (s .state))
+        → nextAction x (s .state) ≡ exactChoice G (x .delay) (x .table) (play (turnOf s)) → RightBy (actWith x (s .state))
     acted-right m r b c =
         let t = f .turn in
         let g = goes (turnOf s) in
-        subst actionsBy
+        subst RightBy
         (sym
         (act-answers x (s .state) (good-state s f) (λ (q : s .state .turn ≡ lastTurn). omega arith) r action
         (c ∙ g .has-action))) (
@@ -374,7 +366,7 @@ module _ (G : Game) (legal : Legal G) (x : TableSheet) (sound : Sound G x) (w : 
           acted-follows m,
         )
 
-    pub act-right : actionsBy (actWith x (s .state))
+    pub act-right : RightBy (actWith x (s .state))
     unfolding both
     act-right =
         let t = f .turn in
@@ -382,20 +374,20 @@ module _ (G : Game) (legal : Legal G) (x : TableSheet) (sound : Sound G x) (w : 
         ⊎-elim
         (λ (e : eqb (turnOf s) lastTurn ≡ true).
         let q : turnOf s ≡ lastTurn = eqb-true (turnOf s) lastTurn e in
-        subst actionsBy (sym (act-15 x (s .state) (good-state s f) (f .turn ∙ q))) (rw e, f))
+        subst RightBy (sym (act-15 x (s .state) (good-state s f) (f .turn ∙ q))) (rw e, f))
         (λ (e : eqb (turnOf s) lastTurn ≡ false).
         let q = eqb-false (turnOf s) lastTurn e in
         let m : turnOf s < lastTurn = omega arith in
         ⊎-elim
         (λ (l : 2 * turnOf s < x .delay).
-        acted-right m (reported-early l) (rw (lt-leb (x .delay) (2 * turnOf s) l)) (action-early l))
+        acted-right m (known-early l) (rw (lt-leb (x .delay) (2 * turnOf s) l)) (action-early l))
         (λ (g : x .delay ≤ 2 * turnOf s).
         ⊎-elim
         (λ (k : isObserved s needed ≡ true).
-        acted-right m (reported-late g ∙ k) (both-false (leb (x .delay) (2 * turnOf s)) _ (ap not k)) (action-late g k))
+        acted-right m (known-late g ∙ k) (both-false (leb (x .delay) (2 * turnOf s)) _ (ap not k)) (action-late g k))
         (λ (k : isObserved s needed ≡ false).
-        subst actionsBy
-        (sym (act-13 x (s .state) (good-state s f) (λ r. q (sym t ∙ r)) (reported-late g ∙ k)))
+        subst RightBy
+        (sym (act-13 x (s .state) (good-state s f) (λ r. q (sym t ∙ r)) (known-late g ∙ k)))
         (rw (e, le-leb (x .delay) (2 * turnOf s) g, k), f))
         (bool (isObserved s needed)))
         (below? (2 * turnOf s) (x .delay)))

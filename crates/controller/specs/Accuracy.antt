@@ -13,7 +13,7 @@ use Rattle.theory.specs.Play.{last, index, back, actionsOf, Rule}
 use Rattle.theory.specs.Exact.{MaybeAction, none, some, Run, going, playOf, exactChoice, exact, worked}
 use Rattle.table.specs.TableSheet.{TableSheet, decode}
 use Rattle.state.specs.State.{lastTurn, opened}
-use Rattle.controller.specs.Controller.{Acted, openAnswer, observeAnswer, actAnswer}
+use Rattle.controller.specs.Controller.{TurnTaken, openAnswer, observeAnswer, actAnswer}
 use Rattle.state.specs.declared.state.State.{State}
 
 -- "Its calls are hearing and giving": observe a position at an index, and act
@@ -35,7 +35,7 @@ abbrev pub afterObserving : State → Answer State → Reply
 afterObserving s (refused n) = record { response = refuses n; state = s }
 afterObserving s (accepted next) = record { response = accepts; state = next }
 
-abbrev pub afterActing : State → Answer Acted → Reply
+abbrev pub afterActing : State → Answer TurnTaken → Reply
 afterActing s (refused n) = record { response = refuses n; state = s }
 afterActing s (accepted g) = record { response = acts (g .action); state = g .state }
 

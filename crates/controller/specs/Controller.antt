@@ -27,12 +27,12 @@ wordOf A [] = 0
 wordOf A (a ∷ older) = wordOf A older * A + a
 
 -- an action, and the state after it
-pub record Acted : Type 0 where
+pub record TurnTaken : Type 0 where
   pub action : ℕ
   pub state : State
 
 -- "14: the mask of that report's pair is 0"
-unfoldable pub obey : TableSheet → State → MaybeAction → Answer Acted
+unfoldable pub obey : TableSheet → State → MaybeAction → Answer TurnTaken
 obey x s none = refused 14
 obey x s (some a) = accepted (record { action = a; state = actedState (x .delay) s a })
 
@@ -44,14 +44,14 @@ nextAction x s =
     (wordOf (x .actions) (take (x .delay / 2) (s .last)))
 
 -- what refusal 13 leaves: 2i is below d, or index 2i - d was observed
-unfoldable pub reported : TableSheet → State → Bool
-reported x s = either (ltb (2 * s .turn) (x .delay)) (slotAt s (x .delay) .known)
+unfoldable pub neededKnown : TableSheet → State → Bool
+neededKnown x s = either (ltb (2 * s .turn) (x .delay)) (slotAt s (x .delay) .known)
 
 -- "20; 15: turn is 1,000,000; 13: 2i is at least d and index 2i - d is unheard; 14"
-unfoldable pub actWith : TableSheet → State → Answer Acted
+unfoldable pub actWith : TableSheet → State → Answer TurnTaken
 actWith x s =
     check (stateOk x s) 20
-    (check (not (eqb (s .turn) lastTurn)) 15 (check (reported x s) 13 (obey x s (nextAction x s))))
+    (check (not (eqb (s .turn) lastTurn)) 15 (check (neededKnown x s) 13 (obey x s (nextAction x s))))
 
 -- the operations over a sheet's bytes: each reads them, "10 to 12", on every call
 unfoldable pub openAnswer : List ℕ → Answer State
@@ -60,5 +60,5 @@ openAnswer t = onAccepted (tableAnswer t) (λ x. accepted opened)
 unfoldable pub observeAnswer : List ℕ → State → ℕ → ℕ → Answer State
 observeAnswer t s k p = onAccepted (tableAnswer t) (λ x. observeWith x s k p)
 
-unfoldable pub actAnswer : List ℕ → State → Answer Acted
+unfoldable pub actAnswer : List ℕ → State → Answer TurnTaken
 actAnswer t s = onAccepted (tableAnswer t) (λ x. actWith x s)

@@ -1,20 +1,21 @@
 -- What an observation leaves: the bytes decode to the observed state, and a repeat "changes nothing". Assumes nothing.
-use Prim.Native.Nat.{ℕ, _+_, _-_, _*_, _≤_, _<_}
+use Prim.Native.Nat.{ℕ, _-_, _*_, _≤_, _<_}
 use mathlib.Core.Path.{_≡_, sym, _∙_, ap, ap₂}
 use mathlib.Core.Bool.{true, false}
 use mathlib.Core.List.{List, [], _∷_}
 use mathlib.Core.Logic.{⊎-elim}
 use native.Mathlib.Omega.{arith}
-use borrow.Author.Tests.{le-leb, lt-leb, eqb-true}
+use borrow.Author.Tests.{lt-leb, eqb-true}
 use lib.Dec.{leb}
 use lib.ListN.{length, getD, set, length-set}
 use lib.Seq.{getD-set-same, getD-set-other, set-getD}
 use Rattle.theory.specs.Fold.{either}
-use Rattle.theory.proofs.Fold.{bool, below?, either-left, either-right, getD-tabulate, tabulate-set}
+use Rattle.theory.proofs.Fold.{bool, below?, either-right, getD-tabulate, tabulate-set}
 use Rattle.state.specs.State.{slots, unknown, seen, slotAt, agrees, observed}
 use Rattle.state.specs.StateBytes.{stateBytes, knownAt, positionAt, turnFrom, slotFrom, slotIn, windowIn, decodeState, slotFilled}
 use Rattle.state.specs.declared.state.Slot.{Slot}
 use Rattle.state.specs.declared.state.State.{State}
+use Rattle.state.proofs.ByteLaws.{filled-none}
 
 -- a slot that is known and agrees with p says p
 known-says : (w : Slot) (p : ℕ) → w .known ≡ true → agrees w p ≡ true → w ≡ seen p
@@ -76,20 +77,16 @@ slot-decoded : (b : List ℕ) (k : ℕ) → k < slots → slotAt (decodeState b)
 unfolding slotAt decodeState windowIn
 slot-decoded b k h = getD-tabulate (slotIn b) slots k unknown h
 
-filled-known : (b : List ℕ) (k p : ℕ) → slotIn b k .known ≡ true → slotFilled b k p ≡ b
+filled-left : (b : List ℕ) (k p : ℕ) → slotIn b k .known ≡ true → slotFilled b k p ≡ b
 unfolding slotFilled
-filled-known b k p e = rw (either-right _ _ e)
-
-filled-none : (b : List ℕ) (k p : ℕ) → slots ≤ k → slotFilled b k p ≡ b
-unfolding slotFilled
-filled-none b k p h = rw (either-left (leb slots k) (slotIn b k .known) (le-leb slots k h))
+filled-left b k p e = rw (either-right _ _ e)
 
 -- of bytes: where the state that they mean knows slot k, they are left, byte for byte
 pub repeat-bytes : (b : List ℕ) (k p : ℕ) → slotAt (decodeState b) k .known ≡ true → slotFilled b k p ≡ b
 repeat-bytes b k p e =
     ⊎-elim
-    (λ (h : k < slots). filled-known b k p (ap (λ (w : Slot). w .known) (sym (slot-decoded b k h)) ∙ e))
-    (λ (h : slots ≤ k). filled-none b k p h)
+    (λ (h : k < slots). filled-left b k p (ap (λ (w : Slot). w .known) (sym (slot-decoded b k h)) ∙ e))
+    (λ (h : slots ≤ k). sym (filled-none b k p h))
     (below? k slots)
 
 filled-anew : (b : List ℕ) (k p : ℕ) → k < slots → slotIn b k .known ≡ false → slotFilled b k p ≡ anew b k p
@@ -106,7 +103,7 @@ decode-filled b k p long h a =
     ⊎-elim
     (λ (e : slotIn b k .known ≡ true).
     let same = known-set (decodeState b .window) k p (ap (λ (w : Slot). w .known) is ∙ e) a in
-    ap decodeState (filled-known b k p e)
+    ap decodeState (filled-left b k p e)
     ∙ (λ i. record { turn = decodeState b .turn; last = decodeState b .last; window = sym same i }))
     (λ (e : slotIn b k .known ≡ false). ap decodeState (filled-anew b k p h e) ∙ decode-anew b k p long h)
     (bool (slotIn b k .known))

@@ -1,5 +1,5 @@
 -- Decoding what was encoded gives the state back. Assumes nothing.
-use Prim.Native.Nat.{ℕ, _/_, _%_, _<_}
+use Prim.Native.Nat.{ℕ, _/_, _%_, _^_, _<_}
 use mathlib.Core.Path.{_≡_, refl}
 use mathlib.Core.Bool.{Bool, true, false, not, cond}
 use mathlib.Core.List.{List, [], _∷_}
@@ -13,23 +13,14 @@ use Rattle.state.specs.declared.state.Slot.{Slot}
 use Rattle.state.specs.declared.state.State.{State}
 
 -- a state that has bytes: a turn of four bytes, three held actions, seven slots
-pub record Held (s : State) : Type 0 where
-  pub short-turn : s .turn < 4294967296
-  pub three : length (s .last) ≡ mostHeld
-  pub seven : length (s .window) ≡ slots
-
--- any bytes decode to three actions and seven slots
-pub three-decoded : (b : List ℕ) → length (decodeState b .last) ≡ mostHeld
-unfolding decodeState
-three-decoded b = refl
-
-pub seven-decoded : (b : List ℕ) → length (decodeState b .window) ≡ slots
-unfolding decodeState windowIn tabulate
-seven-decoded b = refl
+pub record HasBytes (s : State) : Type 0 where
+  pub short-turn : s .turn < 256 ^ 4
+  pub all-held : length (s .last) ≡ mostHeld
+  pub all-slots : length (s .window) ≡ slots
 
 -- decoding what was encoded
 
-turn-back : (t : ℕ) → t < 4294967296 → turnFrom (t % 256) (t / 256 % 256) (t / 256 / 256 % 256) (t / 256 / 256 / 256 % 256) ≡ t
+turn-back : (t : ℕ) → t < 256 ^ 4 → turnFrom (t % 256) (t / 256 % 256) (t / 256 / 256 % 256) (t / 256 / 256 / 256 % 256) ≡ t
 unfolding turnFrom
 turn-back t h = omega arith
 
@@ -65,11 +56,11 @@ slots-back : (s : State) → length (s .window) ≡ slots → decodeState (encod
 unfolding decodeState encodeState windowIn slotIn slotBytes slotAt tabulate
 slots-back s e = simp slot-back (window-back (s .window) e)
 
-pub decode-encode : (s : State) → Held s → decodeState (encodeState s) ≡ s
+pub decode-encode : (s : State) → HasBytes s → decodeState (encodeState s) ≡ s
 unfolding decodeState encodeState slotBytes
 decode-encode s h =
     λ i. record {
       turn = turn-back (s .turn) (h .short-turn) i;
-      last = actions-back (s .last) (h .three) i;
-      window = slots-back s (h .seven) i;
+      last = actions-back (s .last) (h .all-held) i;
+      window = slots-back s (h .all-slots) i;
     }

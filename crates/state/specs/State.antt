@@ -21,7 +21,7 @@ mostHeld = 3
 abbrev pub slots : ℕ
 slots = 7
 
--- an index without a report, and one with
+-- an index that was not observed, and one that was
 abbrev pub unknown : Slot
 unknown = record { known = false; position = 0 }
 
@@ -60,11 +60,11 @@ windowOk x s = allBelow (withinAt (x .highest) (s .window)) (suc (min (x .delay)
 unfoldable pub stateOk : TableSheet → State → Bool
 stateOk x s = both (leb (s .turn) lastTurn) (both (heldOk x s) (windowOk x s))
 
--- the state after an accepted report of position p at index k. A repeat "changes nothing"
+-- the state after position p was observed at index k. A repeat "changes nothing"
 abbrev pub observed : State → ℕ → ℕ → State
 observed s k p = record { turn = s .turn; last = s .last; window = set (s .window) (2 * s .turn - k) (seen p) }
 
--- the last three actions once a was given
+-- the last three actions once a was taken
 unfoldable pub pushed : ℕ → List ℕ → List ℕ
 pushed a last = a ∷ getD last 0 0 ∷ getD last 1 0 ∷ []
 
@@ -75,6 +75,6 @@ shiftedAt d window k = cond (both (leb 2 k) (leb k d)) (getD window (k - 2) unkn
 unfoldable pub shifted : ℕ → List Slot → List Slot
 shifted d window = tabulate (shiftedAt d window) 0 slots
 
--- the state after action a was given under delay d: "the turn goes up by one"
+-- the state after action a was taken under delay d: "the turn goes up by one"
 abbrev pub actedState : ℕ → State → ℕ → State
 actedState d s a = record { turn = suc (s .turn); last = pushed a (s .last); window = shifted d (s .window) }

@@ -25,7 +25,7 @@ pub struct State {
     pub window: [Slot; SLOTS],
 }
 
-// A slot without a report.
+// A slot without an observation.
 fn unknown() -> Slot
     ensures { λ r. ⌜ r ≡ unknown ⌝ }
 {

@@ -217,15 +217,15 @@ pub ruleset shapes = (needs, few-actions, short-delay, refuses-10, refuses-11, r
 
 -- a flagged word
 
-abbrev wordsOf : List ℕ → Table
+abbrev pub wordsOf : List ℕ → Table
 wordsOf w = record { flags = w; masks = [] }
 
 module _ (w : List ℕ) (v : ℕ) where
-  flag-is : getD w v 0 ≡ 0 → flagged (wordsOf w) v ≡ false
+  pub flag-none : getD w v 0 ≡ 0 → flagged (wordsOf w) v ≡ false
   unfolding flagged
-  flag-is e = rw (eq-eqb _ _ e)
+  flag-none e = rw (eq-eqb _ _ e)
 
-  flag-set : (getD w v 0 ≡ 0 → ⊥) → flagged (wordsOf w) v ≡ true
+  pub flag-set : (getD w v 0 ≡ 0 → ⊥) → flagged (wordsOf w) v ≡ true
   unfolding flagged
   flag-set e = rw (ne-eqb _ _ e)
 
@@ -235,7 +235,7 @@ module _ (w : List ℕ) (v : ℕ) where
 
   pub flag-again : anyBelow (flagged (record { flags = w; masks = [] })) v ≡ false → getD w v 0 ≡ 0
       → anyBelow (flagged (record { flags = w; masks = [] })) (v + 1) ≡ false
-  flag-again a e = any-again (flagged (wordsOf w)) v {r = false} a (sym (flag-is e)) refl
+  flag-again a e = any-again (flagged (wordsOf w)) v {r = false} a (sym (flag-none e)) refl
 
   pub flags-done : v ≤ length w → length w ≤ v → anyBelow (flagged (record { flags = w; masks = [] })) v ≡ false
       → false ≡ someFlagged (record { flags = w; masks = [] })

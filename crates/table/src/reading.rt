@@ -77,8 +77,8 @@ fn numbers_ok(size: usize, l: TableLayout) -> bool
     nodes_at((wide(l.highest) + 1) as u16, l.actions, l.delay) <= MOST_NODES
 }
 
-// Is no byte above the top? The loop has no exit, so that it compiles to vector instructions: every call of the cabin reads its
-// whole sheet.
+// Is no byte above the top? The loop has no exit, so that it compiles to vector instructions: every call of the controller reads
+// its whole sheet.
 fn bytes_below(top: u8, b: &[u8]) -> bool
     ensures { λ r. ⌜ r ≡ bytesBelow (top + 1) (now (b .entry)) ⌝ }
 {
