@@ -6,18 +6,20 @@ use mathlib.Core.Bool.{Bool, true, false, not}
 use mathlib.Core.Logic.{⊎-elim}
 use mathlib.Core.List.{List, []}
 use native.Mathlib.Omega.{arith}
-use native.Mathlib.Nat.{le-trans}
-use lib.Dec.{leb}
+use native.Mathlib.Nat.{div-eq-of-lt, div-lt-iff-lt-mul}
+use native.Mathlib.Numerals.{add-one}
+use lib.Bits.{bitOr, or-lt, or-add-and, and-le-l, and-le-r}
+use lib.Dec.{eqb, leb, ltb}
 use lib.Pow.{pow-pos, pow-mono}
 use lib.ListN.{length, getD}
 use borrow.Author.Needs.{needs}
 use borrow.Author.Tests.{leb-true, le-leb, lt-leb, lt-ltb, le-ltb, eq-eqb, ne-eqb}
-use Rattle.theory.specs.Fold.{allBelow, anyBelow}
+use Rattle.theory.specs.Fold.{both, allBelow, anyBelow}
 use Rattle.theory.specs.Answer.{Answer, refused, accepted, check, onAccepted}
 use Rattle.theory.specs.Strategy.{initialLength}
 use Rattle.theory.specs.Table.{Table, flagged}
 use Rattle.theory.proofs.Answer.{check-passed}
-use Rattle.theory.proofs.Fold.{bool, both-false, both-left, both-right, all-none, all-again, all-fails, all-short, any-none, any-holds, any-again, any-done, both-none, both-second, failed, passed}
+use Rattle.theory.proofs.Fold.{below?, both-true, both-false, both-left, both-right, all-none, all-suc, all-below, any-none, any-holds, any-again, any-done, both-none, both-second, failed, passed}
 use Rattle.sheet.specs.Limits.{width, mostActions, mostDelay, mostNodes}
 use Rattle.sheet.specs.Form.{contentsOk, placedAt, partAt, bodyOf}
 use Rattle.sheet.specs.Checks.{nodesOf}
@@ -30,7 +32,7 @@ use Rattle.table.specs.TableSheet.{masksIn, masksOf, tableReadingMeans}
 use Rattle.table.specs.declared.reading.TableLayout.{TableLayout}
 use Rattle.table.specs.declared.reading.TableReading.{TableReading}
 use Rattle.table.specs.declared.reading.TableReading.the-variants.{Accepted, Refused}
-use Rattle.sheet.proofs.SizeLaws.{small-power, nodes-small, words-small}
+use Rattle.sheet.proofs.SizeLaws.{nodes-small, words-small}
 
 -- the layout
 
@@ -80,47 +82,55 @@ module _ (size : ℕ) (l : TableLayout) where
 
 pub ruleset numbers = (needs, size-wrong, no-action, many-actions, long-delay, high-start, numbers-end)
 
--- no byte above the top; x is whether none before k is
+-- no byte with a bit at n or above, which is one below 2 ^ n; a is what the bytes before k have together
 
-module _ (top : ℕ) (b : List ℕ) where
-  pub below-first : true ≡ allBelow (belowAt (top + 1) b) 0
-  below-first = sym (all-none (belowAt (top + 1) b))
+or-below : (n a x : ℕ) → ltb (bitOr a x) (2 ^ n) ≡ both (ltb a (2 ^ n)) (ltb x (2 ^ n))
+or-below n a x =
+    ⊎-elim
+    (λ (h : a < 2 ^ n).
+    ⊎-elim
+    (λ (g : x < 2 ^ n). lt-ltb _ _ (or-lt n a x h g) ∙ sym (both-true _ _ (lt-ltb _ _ h) (lt-ltb _ _ g)))
+    (λ (g : 2 ^ n ≤ x). le-ltb (bitOr a x) (2 ^ n) (omega (arith, or-add-and a x, and-le-l a x)) ∙ sym (both-false _ _ (le-ltb _ _ g)))
+    (below? x (2 ^ n)))
+    (λ (h : 2 ^ n ≤ a). le-ltb (bitOr a x) (2 ^ n) (omega (arith, or-add-and a x, and-le-r a x)) ∙ sym (both-none _ _ (le-ltb _ _ h)))
+    (below? a (2 ^ n))
 
-  -- the byte at k is above the top
-  pub below-over : (k : ℕ) → top < getD b k 0 → false ≡ allBelow (belowAt (top + 1) b) (k + 1)
-  unfolding belowAt
-  below-over k h = sym (all-fails (belowAt (top + 1) b) k (k + 1) (omega arith) (le-ltb (getD b k 0) (top + 1) (omega arith)))
-
-  -- it is not, and changes nothing
-  pub below-same : (k : ℕ) (x : Bool) → x ≡ allBelow (belowAt (top + 1) b) k → getD b k 0 ≤ top → x ≡ allBelow (belowAt (top + 1) b) (k + 1)
-  unfolding belowAt
-  below-same k x e h =
-      let p = belowAt (top + 1) b in
-      let small : p k ≡ true = lt-ltb (getD b k 0) (top + 1) (omega arith) in
-      ⊎-elim
-      (λ (t : x ≡ true). t ∙ sym (all-again p k (sym e ∙ t) refl small))
-      (λ (f : x ≡ false). f ∙ sym (all-short p (omega arith) (sym e ∙ f)))
-      (bool x)
-
-  pub below-done : (k : ℕ) (x : Bool) → k ≤ length b → length b ≤ k → x ≡ allBelow (belowAt (top + 1) b) k → x ≡ bytesBelow (top + 1) b
+module _ (n : ℕ) (b : List ℕ) where
+  pub bits-none : length b ≡ 0 → true ≡ bytesBelow (2 ^ n) b
   unfolding bytesBelow
-  below-done k x l g e = let q : k ≡ length b = omega arith in e ∙ ap (allBelow (belowAt (top + 1) b)) q
+  bits-none e = sym (ap (allBelow (belowAt (2 ^ n) b)) e ∙ all-none (belowAt (2 ^ n) b))
 
-pub ruleset below = (needs, below-first, below-over, below-same, below-done)
+  -- every byte is below 256
+  pub bits-all : ((k : ℕ) → getD b k 0 < 256) → 8 ≤ n → true ≡ bytesBelow (2 ^ n) b
+  unfolding bytesBelow belowAt
+  bits-all small h =
+      let most : 256 ≤ 2 ^ n = pow-mono h in
+      sym (all-below (belowAt (2 ^ n) b) (length b) (λ k i. lt-ltb (getD b k 0) (2 ^ n) (omega (arith, small k))))
 
--- the number y of masks of as many actions as there can be: there are some, and the largest is a byte; a is A as a number
+  pub bits-more : (k a : ℕ) → ltb a (2 ^ n) ≡ allBelow (belowAt (2 ^ n) b) k
+      → ltb (bitOr a (getD b k 0)) (2 ^ n) ≡ allBelow (belowAt (2 ^ n) b) (k + 1)
+  unfolding belowAt
+  bits-more k a e = or-below n a (getD b k 0) ∙ ap (λ t. both t (ltb (getD b k 0) (2 ^ n))) e ∙ sym (rw add-one (all-suc (belowAt (2 ^ n) b) k))
 
-module _ (a n y : ℕ) (few : n ≤ mostActions) (ea : a ≡ n) (ey : y ≡ powerTo 2 a) where
-  masks-are : y ≡ 2 ^ n
-  masks-are =
-      let most : 2 ^ n ≤ 512 = le-trans (pow-mono few) (omega arith) in
-      ey ∙ ap (powerTo 2) ea ∙ small-power 2 n most
+  pub bits-first : (a : ℕ) → a ≡ getD b 0 0 → ltb a (2 ^ n) ≡ allBelow (belowAt (2 ^ n) b) 1
+  unfolding belowAt
+  bits-first a e = ap (λ x. ltb x (2 ^ n)) e ∙ sym (all-suc (belowAt (2 ^ n) b) 0 ∙ both-second _ _ (all-none (belowAt (2 ^ n) b)))
 
-  pub some-mask : 1 ≤ y
-  some-mask = rw masks-are (pow-pos n)
+  pub bits-done : (k a : ℕ) → k ≤ length b → length b ≤ k → ltb a (2 ^ n) ≡ allBelow (belowAt (2 ^ n) b) k
+      → eqb (a / 2 ^ n) 0 ≡ bytesBelow (2 ^ n) b
+  unfolding bytesBelow
+  bits-done k a l g e =
+      let q : k ≡ length b = omega arith in
+      quotient ∙ e ∙ ap (allBelow (belowAt (2 ^ n) b)) q
+    where
+      quotient : eqb (a / 2 ^ n) 0 ≡ ltb a (2 ^ n)
+      quotient =
+          ⊎-elim
+          (λ (h : a < 2 ^ n). eq-eqb _ _ (div-eq-of-lt h) ∙ sym (lt-ltb _ _ h))
+          (λ (h : 2 ^ n ≤ a). ne-eqb (a / 2 ^ n) 0 (λ (z : a / 2 ^ n ≡ 0). omega (arith, div-lt-iff-lt-mul {k = 2 ^ n} {x = a} {y = 1} (pow-pos n) .0 (omega arith))) ∙ sym (le-ltb _ _ h))
+          (below? a (2 ^ n))
 
-  pub mask-byte : y - 1 < 256
-  mask-byte = let most : 2 ^ n ≤ 256 = pow-mono few in omega (arith, masks-are)
+pub ruleset bits = (needs, bits-none, bits-all, bits-first, bits-more, bits-done)
 
 -- 11, the W and T bodies; v is the highest position as a number, x and n what the lengths must be, r a test's result
 
@@ -149,18 +159,14 @@ module _ (l : TableLayout) (w t : List ℕ) (few : l .actions ≤ mostActions) (
       unfolding bodiesOk
       flag-over g = sym (both-false _ _ (both-false _ _ (both-none _ _ (failed er g))))
 
-      pub bodies-end : (a y : ℕ) (q : Bool) → length w ≡ x → length t ≡ n → not r ≡ false → a ≡ l .actions
-          → y ≡ powerTo 2 a → q ≡ bytesBelow (y - 1 + 1) t → q ≡ bodiesOk (says l w t)
+      pub bodies-end : (q : Bool) → length w ≡ x → length t ≡ n → not r ≡ false → q ≡ bytesBelow (2 ^ l .actions) t → q ≡ bodiesOk (says l w t)
       unfolding bodiesOk
-      bodies-end a y q ew et g ea ey eq =
-          let is : y ≡ 2 ^ l .actions = masks-are a (l .actions) y few ea ey in
-          let top : y - 1 + 1 ≡ 2 ^ l .actions = omega (arith, pow-pos (l .actions)) in
+      bodies-end q ew et g eq =
           eq
-          ∙ ap (λ b. bytesBelow b t) top
           ∙ sym
           (both-second _ _ (eq-eqb _ _ (ew ∙ words-are)) ∙ both-second _ _ (eq-eqb _ _ (et ∙ nodes-are)) ∙ both-second _ _ (passed er g))
 
-pub ruleset bodies = (needs, some-mask, mask-byte, words-wrong, nodes-wrong, flag-over, bodies-end)
+pub ruleset bodies = (needs, words-wrong, nodes-wrong, flag-over, bodies-end)
 
 -- 10 and 11 in their order
 

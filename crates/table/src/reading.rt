@@ -11,14 +11,16 @@ use sheet::limits::MOST_DELAY;
 use sheet::limits::MOST_NODES;
 use sheet::refusal::Refusal;
 use sheet::size::nodes_at;
-use sheet::size::power;
 use sheet::size::words_at;
 ghost use mathlib.Core.Path.{_≡_};
 ghost use mathlib.Core.List.{[]};
-ghost use Prim.Native.Nat.{_+_, _≤_};
+ghost use Prim.Native.Nat.{_^_, _≤_};
 ghost use Rattle.sheet.specs.Limits.{mostActions, mostDelay};
 ghost use Rattle.table.specs.TableSheet.{tableLayout, says, numbersOk, bytesBelow, bodiesOk, shapeAnswer, someFlagged, tableAnswer};
 ghost use Rattle.table.specs.TableSheet.{masksOf, tableReadingMeans};
+
+// The bits of a byte.
+const BYTE: u8 = 8;
 
 // What an accepted reading carries: the start bytes and the places of the W and T bodies.
 pub struct TableLayout {
@@ -77,20 +79,22 @@ fn numbers_ok(size: usize, l: TableLayout) -> bool
     nodes_at((wide(l.highest) + 1) as u16, l.actions, l.delay) <= MOST_NODES
 }
 
-// Is no byte above the top? The loop has no exit, so that it compiles to vector instructions: every call of the controller reads
-// its whole sheet.
-fn bytes_below(top: u8, b: &[u8]) -> bool
-    ensures { λ r. ⌜ r ≡ bytesBelow (top + 1) (now (b .entry)) ⌝ }
+// Has no byte a bit at n or above? Every call of the controller reads its whole sheet: the loop has no exit, so that it compiles to
+// vector instructions, and where a byte has no such bit there is none.
+fn bits_below(n: u8, b: &[u8]) -> bool
+    ensures { λ r. ⌜ r ≡ bytesBelow (2 ^ n) (now (b .entry)) ⌝ }
 {
-    let mut all = true;
-    let mut k: usize = 0;
-    while k < b.len() {
-        if top < b[k] {
-            all = false;
-        }
-        k += 1;
+    if b.len() == 0 {
+        return true;
     }
-    all
+    let mut all = b[0];
+    if BYTE <= n {
+        return true;
+    }
+    for k in 1..b.len() {
+        all = all | b[k];
+    }
+    all >> n == 0
 }
 
 // Check 11, the W and T bodies.
@@ -104,10 +108,10 @@ fn bodies_ok(l: TableLayout, w: &[u8], t: &[u8]) -> bool
     if t.len() != nodes_at((wide(l.highest) + 1) as u16, l.actions, l.delay) {
         return false;
     }
-    if !bytes_below(1, w) {
+    if !bits_below(1, w) {
         return false;
     }
-    bytes_below((power(2, wide(l.actions)) - 1) as u8, t)
+    bits_below(l.actions, t)
 }
 
 // Checks 10 and 11. Reading ends here where first words don't matter.
@@ -134,12 +138,10 @@ pub fn read_shape(sheet: &[u8]) -> TableReading
 fn some_flagged(w: &[u8]) -> bool
     ensures { λ r. ⌜ r ≡ someFlagged (record { flags = now (w .entry); masks = [] }) ⌝ }
 {
-    let mut v: usize = 0;
-    while v < w.len() {
+    for v in 0..w.len() {
         if w[v] != 0 {
             return true;
         }
-        v += 1;
     }
     false
 }

@@ -8,5 +8,4 @@ bodies-ok-spec =
     tie.close
     (tie.spec (λ c κs. search bodies) (λ c. search bodies) (λ c κs. search bodies) (λ c. search bodies)
     (λ c. search bodies) (λ c κs. search bodies) (λ c. search bodies) (λ c κs. search bodies) (λ c. search bodies)
-    (λ c κs. search bodies) (λ c κs. search bodies) (λ c. search bodies) (λ c. search bodies) (λ c κs. search bodies)
-    (λ c. search bodies))
+    (λ c κs. search bodies) (λ c. search bodies))

@@ -11,10 +11,10 @@ use Rattle.table.proofs.reading.some_flagged.Statement.{statement}
 use Rattle.table.proofs.reading.some_flagged.Tie as tie
 
 abbrev Inv-loop : tie.InvT-loop
-Inv-loop w v₀ v = (v ≤ length w) × (anyBelow (flagged (record { flags = w; masks = [] })) v ≡ false)
+Inv-loop w v₀ v-end v = (v-end ≡ length w) × (v ≤ length w) × (anyBelow (flagged (record { flags = w; masks = [] })) v ≡ false)
 
 abbrev μ-loop : tie.MeasureT-loop
-μ-loop w v₀ v = length w - v
+μ-loop w v₀ v-end v = length w - v
 
 pub some-flagged-spec : {M : Type 1} → statement M
 some-flagged-spec =
