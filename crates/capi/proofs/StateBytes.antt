@@ -95,10 +95,14 @@ bytes-long t b act long = written-is (λ (l : List ℕ). length l ≡ stateBytes
 opened-back : decodeState (encodeState opened) ≡ opened
 opened-back = decode-encode opened (record { short-turn = omega arith; all-held = refl; all-slots = refl })
 
--- an accepted opening leaves bytes that decode to the opened state
+-- an accepted opening leaves bytes that decode to the opened state, and there are as many of them
 pub open-follows : (t b : List ℕ) → openAnswer t ≡ accepted opened → decodeState (bytesOpened t b) ≡ opened
 unfolding byAnswer
 open-follows t b e = rw e opened-back
+
+pub open-long : (t b : List ℕ) → length b ≡ stateBytes → length (bytesOpened t b) ≡ stateBytes
+unfolding encodeState slotBytes
+open-long t b long = written-is (λ (l : List ℕ). length l ≡ stateBytes) encodeState (openAnswer t) b long (λ s. refl)
 
 -- a list of calls: the state that its bytes decode to is the one of the controller's list, call after call
 pub calls-follow : (t b : List ℕ) (s : Progress) (calls : List Call) → length b ≡ stateBytes → decodeState b ≡ s .state

@@ -85,9 +85,9 @@ observe-accepted t s k p n e =
     )
 
 -- "A repeat with the same position is accepted and changes nothing"
-pub repeat-nothing : (t : List ℕ) (s : State) (k p : ℕ) (n : State) → slotAt s (2 * s .turn - k) .known ≡ true
+pub repeat-leaves-state : (t : List ℕ) (s : State) (k p : ℕ) (n : State) → slotAt s (2 * s .turn - k) .known ≡ true
     → observeAnswer t s k p ≡ accepted n → n ≡ s
-repeat-nothing t s k p n known e =
+repeat-leaves-state t s k p n known e =
     let o = observe-accepted t s k p n e in
     sym (o .3) ∙ repeat-same s k p known (o .2 .same)
 
