@@ -20,8 +20,8 @@ use Rattle.theory.specs.Table.{flagged}
 use Rattle.theory.specs.Exact.{leastFlagged}
 use Rattle.theory.proofs.Fold.{first, first-suc, first-unique, all-none, all-again, all-at, all-fails}
 use Rattle.theory.proofs.Words.{digit-shorter}
-use Rattle.sheet.specs.Limits.{mostActions, mostDelay, mostPower}
-use Rattle.sheet.specs.code.Steps.{powerTo}
+use Rattle.sheet.specs.Limits.{mostActions, mostDelay}
+use Rattle.sheet.specs.code.Steps.{powerTo, mostPower}
 use Rattle.sheet.proofs.SizeLaws.{power-bound, small-power}
 use Rattle.table.proofs.TableLaws.{wordsOf, flag-none, flag-set}
 use Rattle.state.specs.State.{mostHeld}
