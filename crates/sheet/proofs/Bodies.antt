@@ -11,9 +11,8 @@ use borrow.Author.Tests.{ltb-true, ltb-false, eq-eqb, ne-eqb}
 use Rattle.theory.specs.Fold.{allBelow, tabulate}
 use Rattle.theory.specs.Game.{Target, Game}
 use Rattle.theory.proofs.Fold.{bool, below?, all-at, first, first-suc, tabulate-zero, tabulate-suc, getD-tabulate, getD-tabulate-out}
-use Rattle.sheet.specs.Kinds.{controllerAt, safeAt}
 use Rattle.sheet.specs.Reading.{positionsBody, targetsBody, movesBody, startOf, actionCount}
-use Rattle.sheet.specs.SheetGame.{movesIn, movesOf, gameOf}
+use Rattle.sheet.specs.SheetGame.{movesIn, movesOf, gameBy, gameOf}
 use Rattle.sheet.proofs.Accepted.{Read, ranges}
 use Rattle.sheet.proofs.Legality.{legal, target-read, moves-ordered}
 use Rattle.sheet.specs.code.Arrays.{lineCount, fromBelow, firstLine, firstsOf, toAt, tosBetween, viewOf, bodiesGame, indexEntries}
@@ -177,13 +176,4 @@ module _ (s : List ℕ) (r : Read s) where
       ∙ ap (with (gameOf s .target)) (fun-ext moves-read)
     where
       with : (ℕ → ℕ → Target) → (ℕ → List ℕ) → Game
-      with t m =
-          record {
-            positions = length (positionsBody s);
-            start = startOf s;
-            actions = actionCount s;
-            controller = controllerAt (positionsBody s);
-            safe = safeAt (positionsBody s);
-            target = t;
-            moves = m;
-          }
+      with = gameBy (positionsBody s) (startOf s) (actionCount s)

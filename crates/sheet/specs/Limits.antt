@@ -1,5 +1,5 @@
 -- Document 01's numbers for game sheets, named once. Assumes nothing.
-use Prim.Native.Nat.{ℕ}
+use Prim.Native.Nat.{ℕ, _^_}
 
 -- an offset and a length have two bytes each ("each of two bytes, low byte first")
 abbrev pub width : ℕ
@@ -27,4 +27,4 @@ mostNodes = 16384
 
 -- the most first words: three actions out of the most
 abbrev pub mostWords : ℕ
-mostWords = 512
+mostWords = mostActions ^ 3
