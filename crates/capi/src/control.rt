@@ -3,7 +3,6 @@ use controller::calls::Decision;
 use controller::calls::act;
 use controller::calls::observe;
 use controller::calls::opening;
-use sheet::refusal::number;
 use state::bytes::STATE_BYTES;
 use state::bytes::decode;
 use state::bytes::encode;
@@ -21,7 +20,7 @@ pub extern "C" fn lq_open(sheet: &[u8], state: &mut [u8; STATE_BYTES]) -> u8
     let step = opening(sheet);
     let decision = step.decision;
     match decision {
-        Decision::Refused(reason) => number(reason),
+        Decision::Refused(reason) => reason.number(),
         Decision::Accepted => {
             *state = encode(step.state);
             0
@@ -45,7 +44,7 @@ pub extern "C" fn lq_observe(
     let step = observe(sheet, before, index, position);
     let decision = step.decision;
     match decision {
-        Decision::Refused(reason) => number(reason),
+        Decision::Refused(reason) => reason.number(),
         Decision::Accepted => {
             fill_slot(state, 2 * turn - index, position);
             0
@@ -63,7 +62,7 @@ pub extern "C" fn lq_act(sheet: &[u8], state: &mut [u8; STATE_BYTES], action: &m
     let step = act(sheet, decode(state));
     let decision = step.decision;
     match decision {
-        Decision::Refused(reason) => number(reason),
+        Decision::Refused(reason) => reason.number(),
         Decision::Acted(a) => {
             *action = a;
             *state = encode(step.state);

@@ -4,7 +4,6 @@ pub mod control; // opening, observing and acting
 
 use sheet::reading::Reading;
 use sheet::reading::read;
-use sheet::reading::refusal_number;
 use solver::solve::Solution;
 use solver::solve::solve;
 ghost use mathlib.Core.Path.{_≡_};
@@ -23,7 +22,7 @@ pub extern "C" fn lq_read(sheet: &[u8], header: &mut [u8; 3], places: &mut [usiz
 {
     let reading = read(sheet);
     let Reading::Accepted(l) = reading else {
-        return refusal_number(reading);
+        return reading.refusal_number();
     };
     *header = [l.start, l.actions, l.delay];
     *places = [

@@ -3,7 +3,6 @@ use crate::WINS;
 use maker::making::Making;
 use maker::making::make;
 use sheet::form::placed;
-use sheet::refusal::number;
 use table::reading::TableReading;
 use table::reading::read;
 ghost use mathlib.Core.Path.{_≡_};
@@ -56,7 +55,7 @@ pub extern "C" fn lq_masks(sheet: &[u8], place: &mut [usize; 2]) -> u8
 {
     let reading = read(sheet);
     if let TableReading::Refused(reason) = reading {
-        return number(reason);
+        return reason.number();
     }
     let masks = placed(sheet, 2);
     *place = [masks.at, masks.size];

@@ -10,8 +10,6 @@ use state::checks::state_ok;
 use state::state::LAST_TURN;
 use state::state::Slot;
 use state::state::State;
-use state::state::agrees;
-use state::state::opened;
 use state::state::pushed;
 use state::state::shifted;
 use state::state::slot_in;
@@ -99,7 +97,7 @@ fn observe_with(l: TableLayout, s: State, index: usize, position: u8) -> Step
         return refuse(s, Refusal::TooOld);
     }
     let window = s.window;
-    if !agrees(slot_in(window, age), position) {
+    if !slot_in(window, age).agrees(position) {
         return refuse(s, Refusal::Contradiction);
     }
     let mut next = s;
@@ -148,7 +146,7 @@ fn act_with(l: TableLayout, flags: &[u8], masks: &[u8], s: State) -> Step
 pub fn opening(sheet: &[u8]) -> Step
     ensures { λ r. ⌜ stepMeans r ≡ openReply (now (sheet .entry)) ⌝ }
 {
-    let s = opened();
+    let s = State::opened();
     match read(sheet) {
         TableReading::Accepted(_) => accept(s),
         TableReading::Refused(refusal) => refuse(s, refusal),

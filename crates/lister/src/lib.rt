@@ -5,7 +5,6 @@ use sheet::limits::MOST_WORDS;
 use sheet::reading::Layout;
 use sheet::reading::Reading;
 use sheet::reading::read;
-use sheet::reading::refusal_number;
 use sheet::size::nodes_at;
 use solver::solve::Solution;
 use solver::solve::solve;
@@ -124,7 +123,7 @@ pub fn list(sheet: &[u8], masks: &mut [u8], ranks: &mut [u16], out: &mut [u8]) -
     }
     let reading = read(sheet);
     let Reading::Accepted(l) = reading else {
-        return put_refused(out, 0, wide(refusal_number(reading)));
+        return put_refused(out, 0, wide(reading.refusal_number()));
     };
     put_game(out, sheet, l, masks, ranks)
 }

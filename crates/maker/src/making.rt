@@ -3,9 +3,7 @@ use sheet::limits::MOST_WORDS;
 use sheet::reading::Layout;
 use sheet::reading::Reading;
 use sheet::reading::read;
-use sheet::reading::refusal_number;
 use sheet::refusal::Refusal;
-use sheet::refusal::number;
 use sheet::size::nodes_at;
 use sheet::size::words_at;
 use solver::solve::Solution;
@@ -43,13 +41,13 @@ fn short_buffer(l: Layout, masks: usize, ranks: usize, out: usize) -> u8
     let positions = l.positions;
     let nodes = nodes_at(positions.size as u16, l.actions, l.delay);
     if masks < nodes {
-        return number(Refusal::Buffers);
+        return Refusal::Buffers.number();
     }
     if ranks < nodes {
-        return number(Refusal::Buffers);
+        return Refusal::Buffers.number();
     }
     if out < TABLE_START + words_at(l.actions, l.delay) + 2 * nodes {
-        return number(Refusal::Output);
+        return Refusal::Output.number();
     }
     0
 }
@@ -137,7 +135,7 @@ pub fn make(sheet: &[u8], masks: &mut [u8], ranks: &mut [u16], out: &mut [u8]) -
 {
     let reading = read(sheet);
     let Reading::Accepted(l) = reading else {
-        return Making::Refused(refusal_number(reading));
+        return Making::Refused(reading.refusal_number());
     };
     let refused = short_buffer(l, masks.len(), ranks.len(), out.len());
     if refused != 0 {

@@ -33,10 +33,8 @@ fn first_round(p: &[u8], level: Level, ranks: &mut [u16])
     requires { ⌜ (Sized (length (now p)) level) × (length (now ranks) ≡ level .nodes) ⌝ }
     ensures { λ r. ⌜ now (ranks .exit) ≡ tabulate (firstRank (now (p .entry)) level) 0 (level .nodes) ⌝ }
 {
-    let mut k: usize = 0;
-    while k < level.nodes {
+    for k in 0..level.nodes {
         ranks[k] = first_rank(p, level, k);
-        k += 1;
     }
 }
 
@@ -83,13 +81,11 @@ fn round(
         (now (ranks .entry)) (now (ranks .exit)) r ⌝ }
 {
     let mut any = false;
-    let mut k: usize = 0;
-    while k < level.nodes {
+    for k in 0..level.nodes {
         if falls_now(p, grid, u, firsts, level, ranks, n, k) {
             ranks[k] = n + 1;
             any = true;
         }
-        k += 1;
     }
     any
 }

@@ -63,8 +63,7 @@ pub fn contents_ok(s: &[u8], letters: &[u8]) -> bool
         return false;
     }
     let mut at = ENTRY * n;
-    let mut k: usize = 0;
-    while k < n {
+    for k in 0..n {
         let letter = s[ENTRY * k];
         let wanted = letters[k];
         if letter != wanted {
@@ -75,7 +74,6 @@ pub fn contents_ok(s: &[u8], letters: &[u8]) -> bool
             return false;
         }
         at = at + two_bytes(s, ENTRY * k + 3);
-        k += 1;
     }
     at == s.len()
 }

@@ -13,15 +13,13 @@ pub fn grid_of(c: &[u8]) -> [[u16; ROW]; ROWS]
     let n = c.len() / 3;
     let row = [ABSENT; ROW];
     let mut grid = [row; ROWS];
-    let mut k: usize = 0;
-    while k < n {
+    for k in 0..n {
         let from = wide(c[3 * k]);
         let action = wide(c[3 * k + 1]);
         let to = c[3 * k + 2] as u16;
         if action < ROW {
             grid[from][action] = to;
         }
-        k += 1;
     }
     grid
 }

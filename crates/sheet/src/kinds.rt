@@ -113,12 +113,10 @@ pub(crate) fn positions_ok(p: &[u8]) -> bool
     if MOST_POSITIONS < n {
         return false;
     }
-    let mut q: usize = 0;
-    while q < n {
+    for q in 0..n {
         if !known_at(p, q) {
             return false;
         }
-        q += 1;
     }
     true
 }

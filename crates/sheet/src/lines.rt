@@ -60,12 +60,10 @@ pub(crate) fn targets_ok(p: &[u8], actions: u8, c: &[u8]) -> bool
     if over != 0 {
         return false;
     }
-    let mut k: usize = 0;
-    while k < n {
+    for k in 0..n {
         if !target_ok(p, actions, c, k) {
             return false;
         }
-        k += 1;
     }
     true
 }
@@ -96,12 +94,10 @@ pub(crate) fn moves_ok(p: &[u8], u: &[u8]) -> bool
     if MOST_MOVES < n {
         return false;
     }
-    let mut k: usize = 0;
-    while k < n {
+    for k in 0..n {
         if !move_ok(p, u, k) {
             return false;
         }
-        k += 1;
     }
     true
 }
@@ -112,11 +108,9 @@ fn begun(width: usize, b: &[u8], n: usize) -> [bool; ROWS]
     ensures { λ r. ⌜ r ≡ tabulate (hasLine width (now (b .entry)) n) 0 mostPositions ⌝ }
 {
     let mut begun = [false; ROWS];
-    let mut k: usize = 0;
-    while k < n {
+    for k in 0..n {
         let from = wide(b[width * k]);
         begun[from] = true;
-        k += 1;
     }
     begun
 }
@@ -139,13 +133,10 @@ pub(crate) fn all_leave(p: &[u8], c: &[u8], u: &[u8]) -> bool
 {
     let targets = begun(3, c, c.len() / 3);
     let moves = begun(2, u, u.len() / 2);
-    let n = p.len();
-    let mut q: usize = 0;
-    while q < n {
+    for q in 0..p.len() {
         if !leaves_at(p, &targets, &moves, q) {
             return false;
         }
-        q += 1;
     }
     true
 }

@@ -41,11 +41,9 @@ pub fn first_lines(u: &[u8]) -> [u16; INDEX]
 {
     let mut firsts = [0u16; INDEX];
     let mut line: usize = 0;
-    let mut q: usize = 0;
-    while q < INDEX {
+    for q in 0..INDEX {
         line = skip_below(u, line, q);
         firsts[q] = line as u16;
-        q += 1;
     }
     firsts
 }

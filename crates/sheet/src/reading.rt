@@ -13,7 +13,6 @@ use crate::lines::all_leave;
 use crate::lines::moves_ok;
 use crate::lines::targets_ok;
 use crate::refusal::Refusal;
-use crate::refusal::number;
 use crate::size::size_ok;
 ghost use mathlib.Core.Path.{_≡_};
 ghost use Prim.Native.Nat.{_≤_};
@@ -38,6 +37,18 @@ pub struct Layout {
 pub enum Reading {
     Accepted(Layout),
     Refused(Refusal),
+}
+
+impl Reading {
+    // The number of a reading's refusal, 0 where it was accepted: what `let else` hands on, as its else binds nothing.
+    pub fn refusal_number(self) -> u8
+        ensures { λ n. ⌜ n ≡ refusalNumber self ⌝ }
+    {
+        match self {
+            Reading::Accepted(_) => 0,
+            Reading::Refused(refusal) => refusal.number(),
+        }
+    }
 }
 
 // Check 3.
@@ -119,14 +130,4 @@ pub fn read(sheet: &[u8]) -> Reading
         return Reading::Refused(Refusal::Header);
     }
     check_lines(layout_at(sheet), p, body(sheet, 2), body(sheet, 3))
-}
-
-// The number of a reading's refusal, 0 where it was accepted: what `let else` hands on, as its else binds nothing.
-pub fn refusal_number(r: Reading) -> u8
-    ensures { λ n. ⌜ n ≡ refusalNumber r ⌝ }
-{
-    match r {
-        Reading::Accepted(_) => 0,
-        Reading::Refused(refusal) => number(refusal),
-    }
 }

@@ -25,30 +25,32 @@ pub enum Refusal {
     State,
 }
 
-// Document 01's number of a refusal.
-pub fn number(r: Refusal) -> u8
-    ensures { λ n. ⌜ n ≡ numberOf r ⌝ }
-{
-    match r {
-        Refusal::Contents => 1,
-        Refusal::Positions => 2,
-        Refusal::Header => 3,
-        Refusal::Targets => 4,
-        Refusal::Moves => 5,
-        Refusal::Stuck => 6,
-        Refusal::Size => 7,
-        Refusal::Buffers => 8,
-        Refusal::Output => 9,
-        Refusal::TableContents => 10,
-        Refusal::TableShape => 11,
-        Refusal::NoInitialWord => 12,
-        Refusal::Unobserved => 13,
-        Refusal::NoAction => 14,
-        Refusal::LastTurn => 15,
-        Refusal::UnknownPosition => 16,
-        Refusal::TooOld => 17,
-        Refusal::TooNew => 18,
-        Refusal::Contradiction => 19,
-        Refusal::State => 20,
+impl Refusal {
+    // Document 01's number of a refusal.
+    pub fn number(self) -> u8
+        ensures { λ n. ⌜ n ≡ numberOf self ⌝ }
+    {
+        match self {
+            Refusal::Contents => 1,
+            Refusal::Positions => 2,
+            Refusal::Header => 3,
+            Refusal::Targets => 4,
+            Refusal::Moves => 5,
+            Refusal::Stuck => 6,
+            Refusal::Size => 7,
+            Refusal::Buffers => 8,
+            Refusal::Output => 9,
+            Refusal::TableContents => 10,
+            Refusal::TableShape => 11,
+            Refusal::NoInitialWord => 12,
+            Refusal::Unobserved => 13,
+            Refusal::NoAction => 14,
+            Refusal::LastTurn => 15,
+            Refusal::UnknownPosition => 16,
+            Refusal::TooOld => 17,
+            Refusal::TooNew => 18,
+            Refusal::Contradiction => 19,
+            Refusal::State => 20,
+        }
     }
 }

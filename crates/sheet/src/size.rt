@@ -15,13 +15,11 @@ pub fn power(base: u8, exponent: usize) -> usize
     ensures { λ r. ⌜ (r ≡ powerTo base exponent) × (r ≤ mostPower) ⌝ }
 {
     let mut r: usize = 1;
-    let mut i: usize = 0;
-    while i < exponent {
+    for _ in 0..exponent {
         r = r * wide(base);
         if MOST_POWER < r {
             return MOST_POWER;
         }
-        i += 1;
     }
     r
 }

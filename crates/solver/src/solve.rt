@@ -8,9 +8,7 @@ use sheet::moves::first_lines;
 use sheet::reading::Layout;
 use sheet::reading::Reading;
 use sheet::reading::read;
-use sheet::reading::refusal_number;
 use sheet::refusal::Refusal;
-use sheet::refusal::number;
 use walk::level::level_at;
 ghost use mathlib.Core.Path.{_≡_};
 ghost use Rattle.solver.specs.Solving.{solutionMeans, solving, masksSolved, ranksSolved};
@@ -65,16 +63,16 @@ pub fn solve(sheet: &[u8], masks: &mut [u8], ranks: &mut [u16]) -> Solution
 {
     let reading = read(sheet);
     let Reading::Accepted(l) = reading else {
-        return Solution::Refused(refusal_number(reading));
+        return Solution::Refused(reading.refusal_number());
     };
     let positions = l.positions;
     let p = part(sheet, positions);
     let level = level_at(p.len(), l.start, l.actions, l.delay);
     if masks.len() < level.nodes {
-        return Solution::Refused(number(Refusal::Buffers));
+        return Solution::Refused(Refusal::Buffers.number());
     }
     if ranks.len() < level.nodes {
-        return Solution::Refused(number(Refusal::Buffers));
+        return Solution::Refused(Refusal::Buffers.number());
     }
     let targets = l.targets;
     let moves = l.moves;

@@ -33,12 +33,10 @@ fn held_at(actions: u8, last: [u8; HELD], k: usize) -> bool
 fn held_ok(actions: u8, last: [u8; HELD], n: usize) -> bool
     ensures { λ r. ⌜ r ≡ allBelow (heldAt actions last) n ⌝ }
 {
-    let mut k: usize = 0;
-    while k < n {
+    for k in 0..n {
         if !held_at(actions, last, k) {
             return false;
         }
-        k += 1;
     }
     true
 }
@@ -57,12 +55,10 @@ fn within_at(highest: u8, window: [Slot; SLOTS], k: usize) -> bool
 fn window_ok(highest: u8, window: [Slot; SLOTS], n: usize) -> bool
     ensures { λ r. ⌜ r ≡ allBelow (withinAt highest window) n ⌝ }
 {
-    let mut k: usize = 0;
-    while k < n {
+    for k in 0..n {
         if !within_at(highest, window, k) {
             return false;
         }
-        k += 1;
     }
     true
 }

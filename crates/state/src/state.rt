@@ -18,6 +18,28 @@ pub struct Slot {
     pub position: u8,
 }
 
+impl Slot {
+    // A slot without an observation.
+    fn unknown() -> Slot
+        ensures { λ r. ⌜ r ≡ unknown ⌝ }
+    {
+        Slot {
+            known: false,
+            position: 0,
+        }
+    }
+
+    // Does the slot say nothing else than this position?
+    pub fn agrees(self, position: u8) -> bool
+        ensures { λ r. ⌜ r ≡ agrees self position ⌝ }
+    {
+        if self.known {
+            return self.position == position;
+        }
+        true
+    }
+}
+
 // last[k] is the action of turn - 1 - k, window[k] the position at index 2 * turn - k; what is not held is 0.
 pub struct State {
     pub turn: usize,
@@ -25,27 +47,19 @@ pub struct State {
     pub window: [Slot; SLOTS],
 }
 
-// A slot without an observation.
-fn unknown() -> Slot
-    ensures { λ r. ⌜ r ≡ unknown ⌝ }
-{
-    Slot {
-        known: false,
-        position: 0,
-    }
-}
-
-// No action yet, nothing observed.
-pub fn opened() -> State
-    ensures { λ r. ⌜ r ≡ opened ⌝ }
-{
-    let none = unknown();
-    let window = [none; SLOTS];
-    let last = [0u8; HELD];
-    State {
-        turn: 0,
-        last,
-        window,
+impl State {
+    // No action yet, nothing observed.
+    pub fn opened() -> State
+        ensures { λ r. ⌜ r ≡ opened ⌝ }
+    {
+        let none = Slot::unknown();
+        let window = [none; SLOTS];
+        let last = [0u8; HELD];
+        State {
+            turn: 0,
+            last,
+            window,
+        }
     }
 }
 
@@ -56,17 +70,7 @@ pub fn slot_in(window: [Slot; SLOTS], k: usize) -> Slot
     if k < SLOTS {
         return window[k];
     }
-    unknown()
-}
-
-// Does the slot say nothing else than this position?
-pub fn agrees(slot: Slot, position: u8) -> bool
-    ensures { λ r. ⌜ r ≡ agrees slot position ⌝ }
-{
-    if slot.known {
-        return slot.position == position;
-    }
-    true
+    Slot::unknown()
 }
 
 pub fn pushed(action: u8, last: [u8; HELD]) -> [u8; HELD]
@@ -80,10 +84,10 @@ fn shifted_at(delay: u8, window: [Slot; SLOTS], k: u8) -> Slot
     ensures { λ r. ⌜ r ≡ shiftedAt delay window k ⌝ }
 {
     if k < 2 {
-        return unknown();
+        return Slot::unknown();
     }
     if delay < k {
-        return unknown();
+        return Slot::unknown();
     }
     slot_in(window, wide(k) - 2)
 }
@@ -91,7 +95,7 @@ fn shifted_at(delay: u8, window: [Slot; SLOTS], k: u8) -> Slot
 pub fn shifted(delay: u8, window: [Slot; SLOTS]) -> [Slot; SLOTS]
     ensures { λ r. ⌜ r ≡ shifted delay window ⌝ }
 {
-    let none = unknown();
+    let none = Slot::unknown();
     let a = shifted_at(delay, window, 2);
     let b = shifted_at(delay, window, 3);
     let c = shifted_at(delay, window, 4);

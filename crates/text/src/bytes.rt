@@ -23,10 +23,8 @@ pub fn put_text(out: &mut [u8], at: usize, text: &[u8]) -> usize
     ensures { λ r. ⌜ Writes (now (out .entry)) at (now (text .entry)) (now (out .exit)) r ⌝ }
 {
     let mut to = at;
-    let mut k: usize = 0;
-    while k < text.len() {
+    for k in 0..text.len() {
         to = put_byte(out, to, text[k]);
-        k += 1;
     }
     to
 }
@@ -51,10 +49,8 @@ pub fn put_shorts(out: &mut [u8], at: usize, numbers: &[u16]) -> usize
     ensures { λ r. ⌜ Writes (now (out .entry)) at (shortsText (now (numbers .entry))) (now (out .exit)) r ⌝ }
 {
     let mut to = at;
-    let mut k: usize = 0;
-    while k < numbers.len() {
+    for k in 0..numbers.len() {
         to = put_short_at(out, to, numbers, k);
-        k += 1;
     }
     to
 }

@@ -59,10 +59,8 @@ pub(crate) fn without_last(n: usize, base: usize, count: usize) -> usize
     ensures { λ r. ⌜ r ≡ n / base ^ count ⌝ }
 {
     let mut rest = n;
-    let mut k: usize = 0;
-    while k < count {
+    for _ in 0..count {
         rest = quotient(rest, base);
-        k += 1;
     }
     rest
 }
@@ -91,10 +89,8 @@ pub fn put_word(out: &mut [u8], at: usize, actions: usize, count: usize, word: u
         return put_byte(out, at, b'-');
     }
     let mut to = at;
-    let mut i: usize = 0;
-    while i < count {
+    for i in 0..count {
         to = put_digit(out, to, actions, count, word, i);
-        i += 1;
     }
     to
 }
@@ -119,10 +115,8 @@ pub fn put_set(out: &mut [u8], at: usize, actions: usize, mask: usize) -> usize
     ensures { λ r. ⌜ Writes (now (out .entry)) at (setText actions mask) (now (out .exit)) r ⌝ }
 {
     let mut to = at;
-    let mut c: usize = 0;
-    while c < actions {
+    for c in 0..actions {
         to = put_action(out, to, mask, c);
-        c += 1;
     }
     to
 }

@@ -130,10 +130,8 @@ pub fn put_starts(out: &mut [u8], at: usize, actions: usize, count: usize, flags
     ensures { λ r. ⌜ Writes (now (out .entry)) at (startLines actions count (now (flags .entry))) (now (out .exit)) r ⌝ }
 {
     let mut to = at;
-    let mut k: usize = 0;
-    while k < flags.len() {
+    for k in 0..flags.len() {
         to = put_start_at(out, to, actions, count, flags, k);
-        k += 1;
     }
     to
 }
@@ -161,10 +159,8 @@ pub fn put_allows(out: &mut [u8], at: usize, actions: usize, count: usize, masks
     ensures { λ r. ⌜ Writes (now (out .entry)) at (allowLines actions count (now (masks .entry))) (now (out .exit)) r ⌝ }
 {
     let mut to = at;
-    let mut k: usize = 0;
-    while k < masks.len() {
+    for k in 0..masks.len() {
         to = put_allow_at(out, to, actions, count, masks, k);
-        k += 1;
     }
     to
 }
@@ -192,10 +188,8 @@ pub fn put_ranks(out: &mut [u8], at: usize, actions: usize, count: usize, ranks:
     ensures { λ r. ⌜ Writes (now (out .entry)) at (rankLines actions count (now (ranks .entry))) (now (out .exit)) r ⌝ }
 {
     let mut to = at;
-    let mut k: usize = 0;
-    while k < ranks.len() {
+    for k in 0..ranks.len() {
         to = put_rank_at(out, to, actions, count, ranks, k);
-        k += 1;
     }
     to
 }

@@ -159,12 +159,10 @@ fn spoilt_at(
     if x.blocked {
         return true;
     }
-    let mut line = x.first;
-    while line < x.end {
+    for line in x.first..x.end {
         if spoils(p, grid, u, level, marks, n, x, line) {
             return true;
         }
-        line += 1;
     }
     false
 }

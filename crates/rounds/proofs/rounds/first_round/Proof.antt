@@ -9,10 +9,11 @@ use Rattle.rounds.proofs.rounds.first_round.Statement.{statement}
 use Rattle.rounds.proofs.rounds.first_round.Tie as tie
 
 abbrev Inv-loop : tie.InvT-loop
-Inv-loop p level ranks₀ k₀ ranks k = (k ≤ level .nodes) × (length ranks ≡ length ranks₀) × (ranks ≡ filled (firstRank p level) k ranks₀)
+Inv-loop p level ranks₀ k₀ k-end ranks k =
+    (k-end ≡ level .nodes) × (k ≤ level .nodes) × (length ranks ≡ length ranks₀) × (ranks ≡ filled (firstRank p level) k ranks₀)
 
 abbrev μ-loop : tie.MeasureT-loop
-μ-loop p level ranks₀ k₀ ranks k = level .nodes - k
+μ-loop p level ranks₀ k₀ k-end ranks k = level .nodes - k
 
 pub first-round-spec : {M : Type 1} → statement M
 first-round-spec =

@@ -14,34 +14,37 @@ use Rattle.rounds.proofs.rounds.round.Statement.{statement}
 use Rattle.rounds.proofs.rounds.round.Tie as tie
 
 abbrev Inv-loop : tie.InvT-loop
-Inv-loop p grid u firsts level ranks₀ n any₀ k₀ ranks any k =
-    (k ≤ level .nodes)
+Inv-loop p grid u firsts level ranks₀ n any₀ k₀ k-end ranks any k =
+    (k-end ≡ level .nodes)
+    × (k ≤ level .nodes)
     × (length ranks ≡ length ranks₀)
     × (ranks ≡ filled (rankIn (arenaOf p grid u firsts level) n ranks₀) k ranks₀)
     × (any ≡ anyBelow (fallsNext (arenaOf p grid u firsts level) n ranks₀) k)
 
 abbrev μ-loop : tie.MeasureT-loop
-μ-loop p grid u firsts level ranks₀ n any₀ k₀ ranks any k = level .nodes - k
+μ-loop p grid u firsts level ranks₀ n any₀ k₀ k-end ranks any k = level .nodes - k
 
 loop-again : tie.Need-loop-again Inv-loop μ-loop
 loop-again c =
-    let i = c .before .before .before .before .before .before .before .before .before .pre in
-    let v = c .before .before .before .before .before .loop .inv in
+    let i = c .before .before .before .before .before .before .before .before .pre in
+    let v = c .before .before .before .before .loop .inv in
     let r = c .before .falls-now .ensures in
     ⊎-elim
     (λ w. (
+      v .0,
       omega arith,
-      ap length (w .1) ∙ simp length-set (v .1),
-      w .1 ∙ round-fell _ _ _ _ (i .2) (i .3) (v .2) r (w .0 .taken) (omega arith),
-      w .2 ∙ any-fell _ _ _ _ (i .2) (i .3) (v .2) r (w .0 .taken),
+      ap length (w .1) ∙ simp length-set (v .2),
+      w .1 ∙ round-fell _ _ _ _ (i .2) (i .3) (v .3) r (w .0 .taken) (omega arith),
+      w .2 ∙ any-fell _ _ _ _ (i .2) (i .3) (v .3) r (w .0 .taken),
     ))
     (λ w. (
+      v .0,
       omega arith,
-      ap length (w .1) ∙ v .1,
-      w .1 ∙ round-kept _ _ _ _ (i .2) (i .3) (v .2) r (w .0 .left) (omega arith),
-      w .2 ∙ any-kept _ _ _ _ (i .2) (i .3) (v .2) r (v .3) (w .0 .left),
+      ap length (w .1) ∙ v .2,
+      w .1 ∙ round-kept _ _ _ _ (i .2) (i .3) (v .3) r (w .0 .left) (omega arith),
+      w .2 ∙ any-kept _ _ _ _ (i .2) (i .3) (v .3) r (v .4) (w .0 .left),
     ))
-    (c .if2 .came)
+    (c .if1 .came)
 
 pub round-spec : {M : Type 1} → statement M
 round-spec =

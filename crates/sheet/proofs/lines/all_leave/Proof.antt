@@ -11,10 +11,10 @@ use Rattle.sheet.proofs.lines.all_leave.Statement.{statement}
 use Rattle.sheet.proofs.lines.all_leave.Tie as tie
 
 abbrev Inv-loop : tie.InvT-loop
-Inv-loop p c u targets moves n q₀ q = (q ≤ length p) × (allBelow (leavesAt p c u) q ≡ true)
+Inv-loop p c u targets moves q₀ q-end q = (q-end ≡ length p) × (q ≤ length p) × (allBelow (leavesAt p c u) q ≡ true)
 
 abbrev μ-loop : tie.MeasureT-loop
-μ-loop p c u targets moves n q₀ q = length p - q
+μ-loop p c u targets moves q₀ q-end q = length p - q
 
 pub all-leave-spec : {M : Type 1} → statement M
 all-leave-spec =

@@ -1,6 +1,7 @@
 -- `put_shorts` meets its contract: what is left to write at the head of its loop gives the whole. Assumes nothing.
 use borrow.Author.Needs.{needs}
 use Prim.Native.Nat.{_-_}
+use mathlib.Core.Path.{_≡_}
 use lib.ListN.{length}
 use Rattle.text.proofs.Page.{begins, goes-on, ends, Along}
 use Rattle.text.specs.Numbers.{shortAt, shortsText}
@@ -8,10 +9,10 @@ use Rattle.text.proofs.bytes.put_shorts.Statement.{statement}
 use Rattle.text.proofs.bytes.put_shorts.Tie as tie
 
 abbrev Inv-loop : tie.InvT-loop
-Inv-loop out₀ at numbers to₀ k₀ out to k = Along (shortAt numbers) (length numbers) out₀ at out to k
+Inv-loop out₀ at numbers to₀ k₀ k-end out to k = (k-end ≡ length numbers) × Along (shortAt numbers) (length numbers) out₀ at out to k
 
 abbrev μ-loop : tie.MeasureT-loop
-μ-loop out₀ at numbers to₀ k₀ out to k = length numbers - k
+μ-loop out₀ at numbers to₀ k₀ k-end out to k = length numbers - k
 
 returns : tie.Need-returns Inv-loop μ-loop
 unfolding shortsText

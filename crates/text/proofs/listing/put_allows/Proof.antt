@@ -1,5 +1,6 @@
 -- `put_allows` meets its contract: what is left to write at the head of its loop gives the whole. Assumes nothing.
 use Prim.Native.Nat.{_-_}
+use mathlib.Core.Path.{_≡_}
 use Rattle.text.proofs.Page.{begins, goes-on, ends, Along}
 use lib.ListN.{length}
 use Rattle.text.specs.Lines.{allowAt, allowLines}
@@ -8,10 +9,10 @@ use Rattle.text.proofs.listing.put_allows.Statement.{statement}
 use Rattle.text.proofs.listing.put_allows.Tie as tie
 
 abbrev Inv-loop : tie.InvT-loop
-Inv-loop out₀ at actions count masks to₀ k₀ out to k = Along (allowAt actions count masks) (length masks) out₀ at out to k
+Inv-loop out₀ at actions count masks to₀ k₀ k-end out to k = (k-end ≡ length masks) × Along (allowAt actions count masks) (length masks) out₀ at out to k
 
 abbrev μ-loop : tie.MeasureT-loop
-μ-loop out₀ at actions count masks to₀ k₀ out to k = length masks - k
+μ-loop out₀ at actions count masks to₀ k₀ k-end out to k = length masks - k
 
 returns : tie.Need-returns Inv-loop μ-loop
 unfolding allowLines

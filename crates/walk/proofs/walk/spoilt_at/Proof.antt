@@ -9,10 +9,12 @@ use Rattle.walk.proofs.walk.spoilt_at.Statement.{statement}
 use Rattle.walk.proofs.walk.spoilt_at.Tie as tie
 
 abbrev Inv-loop : tie.InvT-loop
-Inv-loop p grid u firsts level marks n k c x line₀ line = spoiltBy (arenaOf p grid u firsts level) (fallenBy n marks) k c ≡ spoiltFrom p grid u level (fallenBy n marks) x line
+Inv-loop p grid u firsts level marks n k c x line₀ line-end line =
+    (line-end ≡ x .end)
+    × (spoiltBy (arenaOf p grid u firsts level) (fallenBy n marks) k c ≡ spoiltFrom p grid u level (fallenBy n marks) x line)
 
 abbrev μ-loop : tie.MeasureT-loop
-μ-loop p grid u firsts level marks n k c x line₀ line = x .end - line
+μ-loop p grid u firsts level marks n k c x line₀ line-end line = x .end - line
 
 pub spoilt-at-spec : {M : Type 1} → statement M
 spoilt-at-spec =

@@ -1,7 +1,7 @@
--- `sheet::refusal::number` meets its contract, by the laws of proofs/ReadLaws.antt. Assumes nothing.
+-- `sheet::refusal::Refusal::number` meets its contract, by the laws of proofs/ReadLaws.antt. Assumes nothing.
 use Rattle.sheet.proofs.ReadLaws.{numbers}
-use Rattle.sheet.proofs.refusal.number.Statement.{statement}
-use Rattle.sheet.proofs.refusal.number.Tie as tie
+use Rattle.sheet.proofs.refusal.Refusal.number.Statement.{statement}
+use Rattle.sheet.proofs.refusal.Refusal.number.Tie as tie
 
 pub number-spec : {M : Type 1} → statement M
 number-spec =
