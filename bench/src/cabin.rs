@@ -15,9 +15,10 @@ struct Table<'a> {
     masks: &'a [u8],
 }
 
-/// Without an early exit, so that it is compiled to vector instructions: most of a call's time goes here.
+/// The bytes joined and tested once, which is compiled to vector instructions: at a large table most of a call's time goes here. The top
+/// has all of its low bits.
 fn none_over(bytes: &[u8], top: u8) -> bool {
-    bytes.iter().fold(true, |all, &byte| all & (byte <= top))
+    bytes.iter().fold(0, |all, &byte| all | byte) <= top
 }
 
 fn read(sheet: &[u8]) -> Option<Table<'_>> {

@@ -4,13 +4,13 @@ use loquatquoits_tests::naive::{self, Game, Rule, Verdict};
 use loquatquoits_tests::proved;
 use loquatquoits_tests::random::Random;
 use loquatquoits_tests::sheets::{self, random_yard, Shape, Yard};
+use loquatquoits_tests::worst::{worst, Worst};
+use std::hint::black_box;
 use std::time::{Duration, Instant};
-use worst::{worst, Worst};
 
 mod bits;
 mod cabin;
 mod hand;
-mod worst;
 
 /// The least times of some versions, taken in turn so that whatever else the machine does meets all alike: at least so many runs of each,
 /// and more until half a second is spent.
@@ -62,13 +62,16 @@ fn versions(yard: &Yard, runs: usize) -> ([Duration; 3], u16) {
     assert_eq!(bits::solve(&game, &mut bits.masks, &mut bits.ranks), answer);
     assert_eq!((&ours.masks, &ours.ranks), (&bits.masks, &bits.ranks));
     let mut by_hand = || {
-        let answer = hand::Hand::new(&sheet).solve(&mut hand.masks, &mut hand.ranks);
-        std::hint::black_box(answer);
+        black_box(hand::Hand::new(&sheet).solve(&mut hand.masks, &mut hand.ranks));
     };
     let long = runs < 30;
     let once = if long { time(&mut by_hand) } else { Duration::MAX };
-    let mut by_proof = || drop(proved::solve(&sheet, &mut ours.masks, &mut ours.ranks));
-    let mut by_bits = || drop(bits::solve(&hand::Hand::new(&sheet), &mut bits.masks, &mut bits.ranks));
+    let mut by_proof = || {
+        let _ = black_box(proved::solve(&sheet, &mut ours.masks, &mut ours.ranks));
+    };
+    let mut by_bits = || {
+        black_box(bits::solve(&hand::Hand::new(&sheet), &mut bits.masks, &mut bits.ranks));
+    };
     let times = if long {
         let [a, c] = compare(runs, [&mut by_proof, &mut by_bits]);
         [a, once, c]
@@ -177,7 +180,6 @@ fn worst_yards() {
     for (name, shape) in [
         ("E4", even),
         ("E4 touched", Worst { rows: 7, ballast: 172, touched: true, ..even }),
-        ("E2 touched, lag 2", Worst { rows: 7, ballast: 172, touched: true, delay: 2, ..even }),
         ("O5", odd),
         ("O5 touched", Worst { rows: 9, ballast: 55, width: 60, touched: true, ..odd }),
         ("O5 touched, wide", Worst { rows: 4, ballast: 50, width: 70, touched: true, ..odd }),

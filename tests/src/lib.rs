@@ -5,3 +5,4 @@ pub mod naive;
 pub mod proved;
 pub mod random;
 pub mod sheets;
+pub mod worst;

@@ -5,6 +5,7 @@ use loquatquoits_tests::naive::{self, Game, Rule, Verdict};
 use loquatquoits_tests::proved;
 use loquatquoits_tests::random::Random;
 use loquatquoits_tests::sheets::{self, random_yard, Shape, Yard};
+use loquatquoits_tests::worst::{worst, Worst};
 
 fn rule() -> Rule {
     match std::env::var("NAIVE_RULE").as_deref() {
@@ -291,4 +292,25 @@ fn damaged_sheets() {
     }
     compare(&ladder(33, 8, 6).sheet(), &mut counts);
     report("damaged sheets", &counts, &(1..8).map(|n| format!("refused {n}")).collect::<Vec<_>>());
+}
+
+/// Yards on which one pair falls a round, at every lag: many rounds, and pairs that stand while what they lead to falls.
+#[test]
+fn worst_yards() {
+    let mut counts = Counts::new();
+    let mut rounds = 0;
+    for seed in 1..4 {
+        for (layers, delay) in [(0, 4), (1, 5)] {
+            for touched in [false, true] {
+                let yard = worst(&Worst { actions: 3, layers, rows: 2, ballast: 4, width: 4, touched, delay }, seed);
+                for delay in 0..=yard.delay {
+                    compare(&yard.at(delay).sheet(), &mut counts);
+                }
+                rounds = rounds.max(*solve(&yard).2.iter().max().unwrap());
+            }
+        }
+    }
+    println!("most rounds: {rounds}");
+    assert!(rounds > 20);
+    report("worst yards", &counts, &["winning at 4".into(), "winning at 5".into()]);
 }

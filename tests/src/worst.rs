@@ -1,7 +1,7 @@
 //! Yards on which few pairs fall in each round while many stand: chains that lose one pair a round, beside ballast that never falls and
 //! whose moves are long to look through.
-use loquatquoits_tests::random::Random;
-use loquatquoits_tests::sheets::Yard;
+use crate::random::Random;
+use crate::sheets::Yard;
 
 /// Positions and lines as they are added, ordered at the end.
 struct Plan {
