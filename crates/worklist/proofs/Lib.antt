@@ -1,0 +1,4 @@
+-- Laws of the worklist. Each file says what it shows.
+pub mod BitLaws
+pub mod GoodLaws
+pub mod RoundLaws

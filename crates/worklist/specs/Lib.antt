@@ -1,0 +1,2 @@
+-- The worklist over the nodes of one delay. Each file says what it defines.
+pub mod Work

@@ -1,0 +1,1 @@
+// The rounds by a worklist: each node that falls takes its action's bit from the masks of the nodes before it.
