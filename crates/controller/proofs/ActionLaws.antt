@@ -20,7 +20,7 @@ use Rattle.theory.specs.Table.{Table, flagged}
 use Rattle.theory.specs.Exact.{leastFlagged}
 use Rattle.theory.proofs.Fold.{first, first-suc, first-unique, all-none, all-again, all-at, all-fails}
 use Rattle.theory.proofs.Words.{digit-shorter}
-use Rattle.sheet.specs.Checks.{powerTo}
+use Rattle.sheet.specs.code.Steps.{powerTo}
 use Rattle.sheet.proofs.SizeLaws.{power-bound, small-power}
 use Rattle.controller.specs.Controller.{wordOf}
 

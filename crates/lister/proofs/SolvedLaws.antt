@@ -13,7 +13,8 @@ use Rattle.theory.proofs.Answer.{check-accepted, accepted-on}
 use Rattle.theory.proofs.Rounds.{final-length}
 use Rattle.theory.proofs.Region.{length-masks}
 use Rattle.theory.proofs.Monotone.{answer-least}
-use Rattle.sheet.specs.Checks.{powerTo, nodesOf}
+use Rattle.sheet.specs.Checks.{nodesOf}
+use Rattle.sheet.specs.code.Steps.{powerTo}
 use Rattle.sheet.specs.Reading.{readAnswer, delayOf}
 use Rattle.sheet.specs.SheetGame.{gameOf}
 use Rattle.sheet.specs.declared.reading.Layout.{Layout}

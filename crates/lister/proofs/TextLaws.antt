@@ -8,7 +8,7 @@ use Rattle.theory.specs.Strategy.{initialLength}
 use Rattle.text.specs.Page.{Page, puts}
 use Rattle.text.specs.Lines.{headLine, winningLine, losingLine, startLines, allowLines, rankLines}
 use Rattle.text.proofs.Page.{after}
-use Rattle.solver.specs.Flags.{flagsCount, flagsAfter}
+use Rattle.solver.specs.code.Flags.{flagsCount, flagsAfter}
 use Rattle.lister.specs.Listing.{wonText, lostText}
 use Rattle.lister.specs.Parts.{blank, flagsIn}
 

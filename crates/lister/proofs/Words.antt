@@ -16,7 +16,7 @@ use Rattle.sheet.specs.Reading.{readAnswer, delayOf}
 use Rattle.sheet.specs.SheetGame.{gameOf}
 use Rattle.sheet.specs.declared.reading.Layout.{Layout}
 use Rattle.sheet.proofs.Accepted.{read-is, ranges}
-use Rattle.solver.specs.Flags.{flagWith, flagsCount, flagsAfter}
+use Rattle.solver.specs.code.Flags.{flagWith, flagsCount, flagsAfter}
 use Rattle.solver.proofs.FlagLaws.{words-counted, flags-theory}
 use Rattle.lister.specs.Parts.{blank, flagsIn}
 use Rattle.theory.proofs.Buffer.{over-first, over-room}

@@ -2,7 +2,7 @@
 use Prim.Native.Nat.{ℕ}
 use mathlib.Core.List.{List}
 use lib.ListN.{take, replicate}
-use Rattle.solver.specs.Flags.{flagsCount, flagsAfter}
+use Rattle.solver.specs.code.Flags.{flagsCount, flagsAfter}
 
 -- the most first words: 8 actions, 3 in a word
 abbrev pub mostWords : ℕ

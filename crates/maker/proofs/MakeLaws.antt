@@ -36,7 +36,7 @@ use Rattle.theory.specs.Buffer.{over}
 use Rattle.solver.specs.Solving as solving
 use Rattle.solver.specs.declared.solve.Solution.{Solution}
 use Rattle.solver.specs.declared.solve.Solution.the-variants as solution
-use Rattle.solver.specs.Flags.{flagWith, countIn, flagsCount, flagsAfter}
+use Rattle.solver.specs.code.Flags.{flagWith, countIn, flagsCount, flagsAfter}
 use Rattle.maker.specs.Making.{headerOf, headerBytes, tableBytes, rankBytes, tableSheetOf, rankSheetOf, Made, won, lost, madeOf, outputSize, shortOf, makeAnswer, ifMade, outputAfter, Measured, measureOf, measured, Small, Begins, Ready, Solved}
 use Rattle.sheet.proofs.SizeLaws.{power-bound, small-sizes}
 use Rattle.maker.proofs.Readable.{flags-length, masks-length}

@@ -1,4 +1,3 @@
 -- Laws of the definitions of specs/, on which the proofs of the functions rest.
-pub mod Filling
 pub mod RoundLaws
 pub mod RankedLaws

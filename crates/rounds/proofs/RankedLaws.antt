@@ -1,4 +1,4 @@
--- What all rounds leave, by the test that level and buffer fit (specs/Falling.antt). Assumes nothing.
+-- What all rounds leave, by the test that level and buffer fit (specs/code/Falling.antt). Assumes nothing.
 use Prim.Native.Nat.{ℕ}
 use mathlib.Core.Path.{_≡_, refl}
 use mathlib.Core.Bool.{Bool, true, false, not}
@@ -8,9 +8,9 @@ use borrow.Author.Tests.{eq-eqb, ne-eqb}
 use Rattle.theory.specs.Rounds.{Arena, finalRanks}
 use Rattle.theory.proofs.Fold.{both-true, both-none, both-false, failed, passed}
 use Rattle.walk.specs.declared.level.Level.{Level}
-use Rattle.walk.specs.Nodes.{Sized, isSized}
+use Rattle.walk.specs.code.Nodes.{Sized, isSized}
 use Rattle.walk.proofs.NodeLaws.{sized-tested, tested-sized}
-use Rattle.rounds.specs.Falling.{AtMost, lastRound, isFitted, Ranked}
+use Rattle.rounds.specs.code.Falling.{AtMost, lastRound, isFitted, Ranked}
 use Rattle.rounds.proofs.RoundLaws.{last-most}
 
 module _ (positions : ℕ) (l : Level) where

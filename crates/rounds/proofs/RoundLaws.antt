@@ -1,4 +1,4 @@
--- One round in place, and all rounds (specs/Falling.antt). A node that falls in a round counts as fallen only in the next, since its
+-- One round in place, and all rounds (specs/code/Falling.antt). A node that falls in a round counts as fallen only in the next, since its
 -- rank is over n; so the half-updated list and the list at the round's start say the same. Assumes nothing.
 use Prim.Native.Nat.{ℕ, zero, suc, _+_, _*_, _/_, _≤_, _<_}
 use mathlib.Core.Path.{_≡_, refl, sym, _∙_, ap, fun-ext}
@@ -15,41 +15,32 @@ use borrow.Author.Tests.{eq-eqb, ne-eqb, lt-ltb, le-ltb, le-leb, lt-leb, not-tru
 use Rattle.theory.specs.Fold.{both, allBelow, anyBelow, tabulate}
 use Rattle.theory.specs.Rounds.{Arena, spoiltBy, fell, falls, rankIn, ranksAfter, finalRanks}
 use Rattle.theory.specs.Delay.{onRight}
-use Rattle.theory.proofs.Fold.{bool, below?, both-true, both-left, both-right, both-false, any-none, any-suc, either-right, tabulate-same, length-tabulate, getD-tabulate, any-below-none, any-some, not-both, count, count-le, count-less, both-none, both-second, either-first, not-not}
+use Rattle.theory.proofs.Fold.{bool, below?, both-true, both-left, both-right, both-false, any-none, any-suc, either-right, tabulate-same}
+use Rattle.theory.proofs.Fold.{length-tabulate, getD-tabulate, any-below-none, any-some, not-both, count, count-le, count-less, both-none}
+use Rattle.theory.proofs.Fold.{both-second, either-first, not-not}
 use Rattle.theory.proofs.Rounds.{rank-zero, rank-le, length-after, stays-fallen, fell-true, fell-false, stood-rank, in-fallen, in-fell, in-stands, after-suc, final-is}
 use Rattle.sheet.specs.Kinds.{controllerAt, safeAt}
 use Rattle.walk.specs.declared.level.Level.{Level}
-use Rattle.walk.specs.View.{viewOf, levelArena, arenaOf}
-use Rattle.walk.specs.Walks.{fallenBy}
+use Rattle.walk.specs.code.Levels.{arenaOf}
+use Rattle.sheet.specs.code.Arrays.{viewOf}
+use Rattle.walk.specs.code.Walks.{fallenBy}
 use Rattle.walk.proofs.NodeLaws.{at-node}
-use Rattle.rounds.specs.Falling.{rightAt, firstRank, fallsTo, fallsNext, nextRanks, AtMost, lastRound}
-use Rattle.rounds.proofs.Filling.{filled, filled-none, filled-more, filled-keep, filled-done, filled-below, filled-above}
-
--- sides
-
-pub right-odd : (p : List ℕ) (q : ℕ) {r o : Bool} → o ≡ true → r ≡ controllerAt p q → not r ≡ rightAt o p q
-unfolding rightAt
-right-odd p q e f = rw (e, f)
-
-pub right-even : (p : List ℕ) (q : ℕ) {r o : Bool} → o ≡ false → r ≡ controllerAt p q → r ≡ rightAt o p q
-unfolding rightAt
-right-even p q e f = rw (e, f)
-
-pub ruleset sides = (needs, right-odd, right-even)
+use Rattle.rounds.specs.code.Falling.{firstRank, fallsTo, fallsNext, nextRanks, AtMost, lastRound}
+use Rattle.theory.proofs.Filling.{filled, filled-none, filled-more, filled-keep, filled-done, filled-below, filled-above}
 
 -- round 1
 
 module _ (p : List ℕ) (l : Level) (k : ℕ) where
-  pub first-wrong : {r : Bool} → r ≡ rightAt (l .odd) p (k / l .words) → not r ≡ true → 0 ≡ firstRank p l k
+  pub first-wrong : {r : Bool} → r ≡ onRight (l .odd) (controllerAt p) (k / l .words) → not r ≡ true → 0 ≡ firstRank p l k
   unfolding firstRank both
   first-wrong {r} e n = rw (← e, not-true r n)
 
-  pub first-safe : {r s : Bool} → r ≡ rightAt (l .odd) p (k / l .words) → not r ≡ false → s ≡ safeAt p (k / l .words) → s ≡ true
+  pub first-safe : {r s : Bool} → r ≡ onRight (l .odd) (controllerAt p) (k / l .words) → not r ≡ false → s ≡ safeAt p (k / l .words) → s ≡ true
       → 0 ≡ firstRank p l k
   unfolding firstRank both
   first-safe {r} e n f t = rw (← e, not-false r n, ← f, t)
 
-  pub first-unsafe : {r s : Bool} → r ≡ rightAt (l .odd) p (k / l .words) → not r ≡ false → s ≡ safeAt p (k / l .words) → s ≡ false
+  pub first-unsafe : {r s : Bool} → r ≡ onRight (l .odd) (controllerAt p) (k / l .words) → not r ≡ false → s ≡ safeAt p (k / l .words) → s ≡ false
       → 1 ≡ firstRank p l k
   unfolding firstRank both
   first-unsafe {r} e n f t = rw (← e, not-false r n, ← f, t)
@@ -60,31 +51,25 @@ pub ruleset filling = (needs, filled-none, filled-more, filled-done)
 
 -- the arena of the arrays
 
-side-is : (p : List ℕ) (g : List (List ℕ)) (u f : List ℕ) (l : Level) (o : Bool) (q : ℕ)
-    → onRight o (viewOf p g u f (l .start) (l .actions)) q ≡ rightAt o p q
-unfolding onRight rightAt viewOf
-side-is p g u f l true q = refl
-side-is p g u f l false q = refl
-
 actions-of : (p : List ℕ) (g : List (List ℕ)) (u f : List ℕ) (l : Level) → arenaOf p g u f l .actions ≡ l .actions
-unfolding arenaOf levelArena viewOf
+unfolding arenaOf viewOf
 actions-of p g u f l = refl
 
 module _ (p : List ℕ) (g : List (List ℕ)) (u f : List ℕ) (l : Level) where
-  pub right-is : (k : ℕ) → arenaOf p g u f l .right k ≡ rightAt (l .odd) p (k / l .words)
-  unfolding arenaOf levelArena viewOf
-  right-is k = side-is p g u f l (l .odd) (k / l .words)
+  pub right-is : (k : ℕ) → arenaOf p g u f l .right k ≡ onRight (l .odd) (controllerAt p) (k / l .words)
+  unfolding arenaOf viewOf
+  right-is k = refl
 
   pub falls-fallen : (n k : ℕ) (ranks : List ℕ) → (getD ranks k 0 ≡ 0 → ⊥) → false ≡ fallsTo (arenaOf p g u f l) n ranks k
   unfolding fallsTo
   falls-fallen n k ranks z = sym (both-none _ _ (ne-eqb (getD ranks k 0) 0 z))
 
-  pub falls-wrong : (n k : ℕ) (ranks : List ℕ) {r : Bool} → r ≡ rightAt (l .odd) p (k / l .words) → not r ≡ true
+  pub falls-wrong : (n k : ℕ) (ranks : List ℕ) {r : Bool} → r ≡ onRight (l .odd) (controllerAt p) (k / l .words) → not r ≡ true
       → false ≡ fallsTo (arenaOf p g u f l) n ranks k
   unfolding fallsTo
   falls-wrong n k ranks {r} e z = sym (both-false _ _ (both-none _ _ (right-is k ∙ sym e ∙ not-true r z)))
 
-  pub falls-all : (n k : ℕ) (ranks : List ℕ) {m : ℕ} {r d : Bool} → m ≡ getD ranks k 0 → m ≡ 0 → r ≡ rightAt (l .odd) p (k / l .words)
+  pub falls-all : (n k : ℕ) (ranks : List ℕ) {m : ℕ} {r d : Bool} → m ≡ getD ranks k 0 → m ≡ 0 → r ≡ onRight (l .odd) (controllerAt p) (k / l .words)
       → not r ≡ false → d ≡ allBelow (spoiltBy (arenaOf p g u f l) (fallenBy n ranks) k) (l .actions)
       → d ≡ fallsTo (arenaOf p g u f l) n ranks k
   unfolding fallsTo
@@ -216,7 +201,7 @@ module _ (E : Arena) (n : ℕ) (old : List ℕ) where
         a ∙ sym (rw (add-one k, any-suc (fallsNext E n old) k) (either-first _ _ (sym falls-old ∙ t)))
 
 nodes-of : (p : List ℕ) (g : List (List ℕ)) (u f : List ℕ) (l : Level) → arenaOf p g u f l .nodes ≡ length p * l .words
-unfolding arenaOf levelArena viewOf
+unfolding arenaOf viewOf
 nodes-of p g u f l = refl
 
 pub round-done : (p : List ℕ) (g : List (List ℕ)) (u f : List ℕ) (l : Level) (n k : ℕ) (old : List ℕ) {m : List ℕ}
@@ -246,7 +231,7 @@ module _ (p : List ℕ) (g : List (List ℕ)) (u f : List ℕ) (l : Level) where
   arenaHere = arenaOf p g u f l
 
   safe-is : (k : ℕ) → arenaHere .safe k ≡ safeAt p (k / l .words)
-  unfolding arenaOf levelArena viewOf
+  unfolding arenaOf viewOf
   safe-is k = refl
 
   first-rank-is : (k : ℕ) → firstRank p l k ≡ rankIn arenaHere 0 (ranksAfter arenaHere 0) k

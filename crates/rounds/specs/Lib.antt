@@ -1,2 +1,2 @@
--- One round over the solver's arrays, and what all rounds leave. Each file says what it defines.
-pub mod Falling
+-- All of it is the code's own vocabulary. Each file says what it defines.
+pub mod code

@@ -1,27 +1,19 @@
 // The rounds, in place in the lent rank buffer, which has one entry for each node.
-use sheet::kinds::controller_at;
+use sheet::kinds::on_right;
 use sheet::kinds::safe_at;
+use sheet::limits::INDEX;
+use sheet::limits::ROW;
+use sheet::limits::ROWS;
 use walk::level::Level;
 use walk::level::is_sized;
 use walk::walk::all_spoilt;
 ghost use mathlib.Core.Path.{_≡_};
 ghost use Prim.Native.Nat.{_≤_, _<_};
 ghost use lib.ListN.{length};
-ghost use Rattle.theory.specs.Fold.{anyBelow, tabulate};
-ghost use Rattle.theory.specs.Rounds.{finalRanks};
-ghost use Rattle.walk.specs.View.{arenaOf};
-ghost use Rattle.walk.specs.Nodes.{Sized};
-ghost use Rattle.rounds.specs.Falling.{rightAt, firstRank, fallsTo, fallsNext, nextRanks, AtMost, lastRound, isFitted, Ranked};
-
-// Is this position of the side whose nodes can fall?
-pub fn on_right(p: &[u8], odd: bool, q: usize) -> bool
-    ensures { λ r. ⌜ r ≡ rightAt odd (now (p .entry)) q ⌝ }
-{
-    if odd {
-        return !controller_at(p, q);
-    }
-    controller_at(p, q)
-}
+ghost use Rattle.theory.specs.Fold.{tabulate};
+ghost use Rattle.walk.specs.code.Levels.{arenaOf};
+ghost use Rattle.walk.specs.code.Nodes.{Sized};
+ghost use Rattle.rounds.specs.code.Falling.{firstRank, fallsTo, AtMost, RoundLeaves, FinalRanks, RanksLeft};
 
 fn first_rank(p: &[u8], level: Level, k: usize) -> u16
     requires { ⌜ Sized (length (now p)) level ⌝ }
@@ -51,16 +43,18 @@ fn first_round(p: &[u8], level: Level, ranks: &mut [u16])
 // Does node k fall now, to the nodes of rank 1 to n?
 fn falls_now(
     p: &[u8],
-    grid: &[[u16; 8]; 256],
+    grid: &[[u16; ROW]; ROWS],
     u: &[u8],
-    firsts: &[u16; 257],
+    firsts: &[u16; INDEX],
     level: Level,
     ranks: &[u16],
     n: u16,
     k: usize,
 ) -> bool
     requires { ⌜ (Sized (length (now p)) level) × (k < level .nodes) × (length (now ranks) ≡ level .nodes) ⌝ }
-    ensures { λ r. ⌜ r ≡ fallsTo (arenaOf (now (p .entry)) (now (grid .entry)) (now (u .entry)) (now (firsts .entry)) level) n (now (ranks .entry)) k ⌝ }
+    ensures { λ r.
+        ⌜ r
+        ≡ fallsTo (arenaOf (now (p .entry)) (now (grid .entry)) (now (u .entry)) (now (firsts .entry)) level) n (now (ranks .entry)) k ⌝ }
 {
     let rank = ranks[k];
     if rank != 0 {
@@ -76,15 +70,17 @@ fn falls_now(
 // whether a node fell.
 fn round(
     p: &[u8],
-    grid: &[[u16; 8]; 256],
+    grid: &[[u16; ROW]; ROWS],
     u: &[u8],
-    firsts: &[u16; 257],
+    firsts: &[u16; INDEX],
     level: Level,
     ranks: &mut [u16],
     n: u16,
 ) -> bool
     requires { ⌜ (Sized (length (now p)) level) × (length (now ranks) ≡ level .nodes) × (AtMost n (now ranks)) × (1 ≤ n) × (n < 65535) ⌝ }
-    ensures { λ r. ⌜ (now (ranks .exit) ≡ nextRanks (arenaOf (now (p .entry)) (now (grid .entry)) (now (u .entry)) (now (firsts .entry)) level) n (now (ranks .entry))) × (r ≡ anyBelow (fallsNext (arenaOf (now (p .entry)) (now (grid .entry)) (now (u .entry)) (now (firsts .entry)) level) n (now (ranks .entry))) (level .nodes)) ⌝ }
+    ensures { λ r.
+        ⌜ RoundLeaves (now (p .entry)) (now (grid .entry)) (now (u .entry)) (now (firsts .entry)) level n
+        (now (ranks .entry)) (now (ranks .exit)) r ⌝ }
 {
     let mut any = false;
     let mut k: usize = 0;
@@ -101,14 +97,15 @@ fn round(
 // All rounds, and their number: the last one in which a node fell, or round 1.
 fn all_rounds(
     p: &[u8],
-    grid: &[[u16; 8]; 256],
+    grid: &[[u16; ROW]; ROWS],
     u: &[u8],
-    firsts: &[u16; 257],
+    firsts: &[u16; INDEX],
     level: Level,
     ranks: &mut [u16],
 ) -> u16
     requires { ⌜ (Sized (length (now p)) level) × (length (now ranks) ≡ level .nodes) ⌝ }
-    ensures { λ r. ⌜ (now (ranks .exit) ≡ finalRanks (arenaOf (now (p .entry)) (now (grid .entry)) (now (u .entry)) (now (firsts .entry)) level)) × (r ≡ lastRound (now (ranks .exit))) ⌝ }
+    ensures { λ r.
+        ⌜ FinalRanks (now (p .entry)) (now (grid .entry)) (now (u .entry)) (now (firsts .entry)) level (now (ranks .exit)) r ⌝ }
 {
     first_round(p, level, ranks);
     let mut n: u16 = 1;
@@ -125,13 +122,15 @@ fn all_rounds(
 // entry for each node.
 pub fn rounds(
     p: &[u8],
-    grid: &[[u16; 8]; 256],
+    grid: &[[u16; ROW]; ROWS],
     u: &[u8],
-    firsts: &[u16; 257],
+    firsts: &[u16; INDEX],
     level: Level,
     ranks: &mut [u16],
 ) -> u16
-    ensures { λ r. ⌜ Ranked (isFitted (length (now (p .entry))) level (length (now (ranks .entry)))) (arenaOf (now (p .entry)) (now (grid .entry)) (now (u .entry)) (now (firsts .entry)) level) (now (ranks .entry)) (now (ranks .exit)) r ⌝ }
+    ensures { λ r.
+        ⌜ RanksLeft (now (p .entry)) (now (grid .entry)) (now (u .entry)) (now (firsts .entry)) level
+        (now (ranks .entry)) (now (ranks .exit)) r ⌝ }
 {
     if !is_sized(p.len(), level) {
         return 0;

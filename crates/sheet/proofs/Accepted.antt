@@ -22,6 +22,7 @@ use Rattle.sheet.specs.declared.refusal.Refusal.{Refusal}
 use Rattle.sheet.specs.declared.reading.Layout.{Layout}
 use Rattle.sheet.specs.declared.reading.Reading.{Reading}
 use Rattle.sheet.specs.declared.reading.Reading.the-variants.{Accepted, Refused}
+use Rattle.sheet.specs.Limits.{mostPositions, mostActions, mostDelay, mostMoves, mostNodes}
 
 -- the bodies of any sheet whose contents are right lie inside it whole
 
@@ -98,15 +99,15 @@ module _ (s : List ℕ) (l : Layout) (e : readAnswer s ≡ accepted l) where
 -- the numbers of an accepted sheet
 pub record Ranges (s : List ℕ) : Type 0 where
   pub some-position : 1 ≤ length (positionsBody s)
-  pub few-positions : length (positionsBody s) ≤ 256
+  pub few-positions : length (positionsBody s) ≤ mostPositions
   pub some-action : 1 ≤ actionCount s
-  pub few-actions : actionCount s ≤ 8
-  pub short-delay : delayOf s ≤ 6
+  pub few-actions : actionCount s ≤ mostActions
+  pub short-delay : delayOf s ≤ mostDelay
   pub own-start : controllerAt (positionsBody s) (startOf s) ≡ true
   pub whole-targets : length (targetsBody s) ≡ 3 * (length (targetsBody s) / 3)
   pub whole-moves : length (movesBody s) ≡ 2 * (length (movesBody s) / 2)
-  pub few-moves : length (movesBody s) / 2 ≤ 4096
-  pub few-nodes : nodesOf (length (positionsBody s)) (actionCount s) (delayOf s) ≤ 16384
+  pub few-moves : length (movesBody s) / 2 ≤ mostMoves
+  pub few-nodes : nodesOf (length (positionsBody s)) (actionCount s) (delayOf s) ≤ mostNodes
 
 module _ (s : List ℕ) (r : Read s) where
   pub ranges : Ranges s

@@ -14,7 +14,9 @@ use Rattle.theory.specs.Fold.{either, allBelow, anyBelow, tabulate}
 use Rattle.theory.proofs.Fold.{both-true, both-false, either-left, either-right, either-first, all-none, all-done, any-suc, both-none, both-second, either-second, failed, passed, all-next}
 use Rattle.theory.proofs.Fold.{all-stopped, getD-tabulate, tabulate-set}
 use Rattle.sheet.specs.Kinds.{controllerAt, environmentAt}
-use Rattle.sheet.specs.Checks.{headerOk, keyAt, risesAt, targetOk, targetsOk, moveOk, movesOk, beginsAt, hasLine, leavesAt, leavesBy, allLeave}
+use Rattle.sheet.specs.Checks.{headerOk, keyAt, risesAt, targetOk, targetsOk, moveOk, movesOk, beginsAt, hasLine, leavesAt, allLeave}
+use Rattle.sheet.specs.code.Steps.{leavesBy}
+use Rattle.sheet.specs.Limits.{mostPositions, mostActions, mostDelay, mostMoves}
 
 -- check 3: the passed tests, then the failed one
 
@@ -27,15 +29,15 @@ module _ (p h : List ℕ) where
   unfolding headerOk
   no-action e = sym (both-false _ _ (both-none _ _ (lt-leb 1 (getD h 1 0) e)))
 
-  pub many-actions : 8 < getD h 1 0 → false ≡ headerOk p h
+  pub many-actions : mostActions < getD h 1 0 → false ≡ headerOk p h
   unfolding headerOk
-  many-actions e = sym (both-false _ _ (both-false _ _ (both-none _ _ (lt-leb (getD h 1 0) 8 e))))
+  many-actions e = sym (both-false _ _ (both-false _ _ (both-none _ _ (lt-leb (getD h 1 0) mostActions e))))
 
-  pub long-delay : 6 < getD h 2 0 → false ≡ headerOk p h
+  pub long-delay : mostDelay < getD h 2 0 → false ≡ headerOk p h
   unfolding headerOk
-  long-delay e = sym (both-false _ _ (both-false _ _ (both-false _ _ (both-none _ _ (lt-leb (getD h 2 0) 6 e)))))
+  long-delay e = sym (both-false _ _ (both-false _ _ (both-false _ _ (both-none _ _ (lt-leb (getD h 2 0) mostDelay e)))))
 
-  pub header-start : (w : ℕ) (r : Bool) → length h ≡ 3 → 1 ≤ getD h 1 0 → getD h 1 0 ≤ 8 → getD h 2 0 ≤ 6 → w ≡ getD h 0 0
+  pub header-start : (w : ℕ) (r : Bool) → length h ≡ 3 → 1 ≤ getD h 1 0 → getD h 1 0 ≤ mostActions → getD h 2 0 ≤ mostDelay → w ≡ getD h 0 0
       → r ≡ controllerAt p w → r ≡ headerOk p h
   unfolding headerOk
   header-start w r l a b d e f =
@@ -143,7 +145,7 @@ module _ (p u : List ℕ) where
   unfolding movesOk
   moves-over e = sym (both-none _ _ (ne-eqb _ _ e))
 
-  pub moves-many : 4096 < length u / 2 → false ≡ movesOk p u
+  pub moves-many : mostMoves < length u / 2 → false ≡ movesOk p u
   unfolding movesOk
   moves-many h = sym (both-false _ _ (both-none _ _ (lt-leb _ _ h)))
 
@@ -155,7 +157,7 @@ module _ (p u : List ℕ) where
       → allBelow (moveOk p u) (k + 1) ≡ true
   moves-again k r = all-next (moveOk p u) k
 
-  pub moves-right : (k : ℕ) → length u % 2 ≡ 0 → length u / 2 ≤ 4096 → k ≤ length u / 2 → length u / 2 ≤ k
+  pub moves-right : (k : ℕ) → length u % 2 ≡ 0 → length u / 2 ≤ mostMoves → k ≤ length u / 2 → length u / 2 ≤ k
       → allBelow (moveOk p u) k ≡ true → true ≡ movesOk p u
   unfolding movesOk
   moves-right k e m l g t =
@@ -172,7 +174,7 @@ line-within w k n h l = mul-lt-mul-of-pos-left l h
 -- one pass over the lines of w bytes: l says which positions the first k lines begin with
 
 module _ (w : ℕ) (b : List ℕ) where
-  pub begun-none : replicate 256 false ≡ tabulate (hasLine w b 0) 0 256
+  pub begun-none : replicate mostPositions false ≡ tabulate (hasLine w b 0) 0 mostPositions
   unfolding hasLine anyBelow tabulate
   begun-none = refl
 
@@ -188,13 +190,13 @@ module _ (w : ℕ) (b : List ℕ) where
   unfolding beginsAt
   other k v q e n = next k q ∙ either-first _ _ (ne-eqb _ _ (λ x. n (sym (e ∙ x))))
 
-  pub begun-more : (k v : ℕ) {l : List Bool} → l ≡ tabulate (hasLine w b k) 0 256 → v ≡ getD b (w * k) 0 → getD b (w * k) 0 < 256
-      → set l v true ≡ tabulate (hasLine w b (k + 1)) 0 256
+  pub begun-more : (k v : ℕ) {l : List Bool} → l ≡ tabulate (hasLine w b k) 0 mostPositions → v ≡ getD b (w * k) 0 → getD b (w * k) 0 < 256
+      → set l v true ≡ tabulate (hasLine w b (k + 1)) 0 mostPositions
   begun-more k v {l} so-far e h =
       rw so-far
-      (tabulate-set (hasLine w b k) (hasLine w b (k + 1)) 256 v true (omega arith) (this k v e) (λ q. other k v q e))
+      (tabulate-set (hasLine w b k) (hasLine w b (k + 1)) mostPositions v true (omega arith) (this k v e) (λ q. other k v q e))
 
-  pub begun-done : (k n : ℕ) {l : List Bool} → k ≤ n → n ≤ k → l ≡ tabulate (hasLine w b k) 0 256 → l ≡ tabulate (hasLine w b n) 0 256
+  pub begun-done : (k n : ℕ) {l : List Bool} → k ≤ n → n ≤ k → l ≡ tabulate (hasLine w b k) 0 mostPositions → l ≡ tabulate (hasLine w b n) 0 mostPositions
   begun-done k n {l} g h e = let done : k ≡ n = omega arith in rw done at e
 
 pub ruleset beginning = (needs, begun-none, begun-more, begun-done)
@@ -213,14 +215,14 @@ module _ (p : List ℕ) (t m : List Bool) (q : ℕ) where
 pub ruleset a-leaving = (needs, leaves-own, leaves-other)
 
 module _ (p c u : List ℕ) where
-  pub leaves-is : (q : ℕ) {r : Bool} {t m : List Bool} → q < length p → length p ≤ 256
-      → t ≡ tabulate (hasLine 3 c (length c / 3)) 0 256 → m ≡ tabulate (hasLine 2 u (length u / 2)) 0 256
+  pub leaves-is : (q : ℕ) {r : Bool} {t m : List Bool} → q < length p → length p ≤ mostPositions
+      → t ≡ tabulate (hasLine 3 c (length c / 3)) 0 mostPositions → m ≡ tabulate (hasLine 2 u (length u / 2)) 0 mostPositions
       → r ≡ leavesBy p t m q → r ≡ leavesAt p c u q
   unfolding leavesAt leavesBy
   leaves-is q {r} {t} {m} h l e f g =
-      let n : q < 256 = omega arith in
-      let a : getD t q false ≡ hasLine 3 c (length c / 3) q = ap (λ (x : List Bool). getD x q false) e ∙ getD-tabulate _ 256 q false n in
-      let b : getD m q false ≡ hasLine 2 u (length u / 2) q = ap (λ (x : List Bool). getD x q false) f ∙ getD-tabulate _ 256 q false n in
+      let n : q < mostPositions = omega arith in
+      let a : getD t q false ≡ hasLine 3 c (length c / 3) q = ap (λ (x : List Bool). getD x q false) e ∙ getD-tabulate _ mostPositions q false n in
+      let b : getD m q false ≡ hasLine 2 u (length u / 2) q = ap (λ (x : List Bool). getD x q false) f ∙ getD-tabulate _ mostPositions q false n in
       rw (a, b) at g
 
   pub stuck-at : (q : ℕ) (r : Bool) → q < length p → r ≡ leavesAt p c u q → not r ≡ true → false ≡ allLeave p c u

@@ -12,6 +12,8 @@ use Rattle.sheet.specs.Kinds.{kindOf, kindAt, isKnown, isController, isE
 use Rattle.sheet.specs.Checks.{positionsOk}
 use Rattle.sheet.specs.declared.kinds.Kind.{Kind}
 use Rattle.sheet.specs.declared.kinds.Kind.the-variants.{Position, Invalid}
+use Rattle.theory.specs.Delay.{onRight}
+use Rattle.sheet.specs.Limits.{mostPositions}
 
 -- the match on a P byte
 
@@ -103,9 +105,9 @@ module _ (p : List ℕ) where
   unfolding positionsOk
   no-positions h = sym (both-none _ _ (lt-leb 1 (length p) h))
 
-  pub many-positions : 256 < length p → false ≡ positionsOk p
+  pub many-positions : mostPositions < length p → false ≡ positionsOk p
   unfolding positionsOk
-  many-positions h = sym (both-false _ _ (both-none _ _ (lt-leb (length p) 256 h)))
+  many-positions h = sym (both-false _ _ (both-none _ _ (lt-leb (length p) mostPositions h)))
 
   pub unknown-position : (q : ℕ) (r : Bool) → q < length p → r ≡ knownAt p q → not r ≡ true → false ≡ positionsOk p
   unfolding positionsOk
@@ -115,10 +117,22 @@ module _ (p : List ℕ) where
       → allBelow (knownAt p) (q + 1) ≡ true
   positions-again q r = all-next (knownAt p) q
 
-  pub positions-right : (q : ℕ) → 1 ≤ length p → length p ≤ 256 → q ≤ length p → length p ≤ q → allBelow (knownAt p) q ≡ true
+  pub positions-right : (q : ℕ) → 1 ≤ length p → length p ≤ mostPositions → q ≤ length p → length p ≤ q → allBelow (knownAt p) q ≡ true
       → true ≡ positionsOk p
   unfolding positionsOk
   positions-right q l m g h e =
       sym (both-true _ _ (le-leb _ _ l) (both-true _ _ (le-leb _ _ m) (all-done (knownAt p) g h e)))
 
 pub ruleset positions = (needs, all-none, no-positions, many-positions, unknown-position, positions-again, positions-right)
+
+-- sides
+
+pub right-odd : (p : List ℕ) (q : ℕ) {r o : Bool} → o ≡ true → r ≡ controllerAt p q → not r ≡ onRight o (controllerAt p) q
+unfolding onRight
+right-odd p q e f = rw (e, f)
+
+pub right-even : (p : List ℕ) (q : ℕ) {r o : Bool} → o ≡ false → r ≡ controllerAt p q → r ≡ onRight o (controllerAt p) q
+unfolding onRight
+right-even p q e f = rw (e, f)
+
+pub ruleset sides = (needs, right-odd, right-even)

@@ -15,12 +15,14 @@ use Rattle.theory.proofs.Fold.{bool, not-both, both-true, both-left, both-right
 use Rattle.sheet.specs.Kinds.{kindAt, isController, isEnvironment, controllerAt, environmentAt}
 use Rattle.sheet.specs.Checks.{keyAt, targetOk, targetsOk, moveOk, movesOk, risesAt, beginsAt, hasLine, leavesAt, allLeave}
 use Rattle.sheet.specs.Reading.{positionsBody, targetsBody, movesBody, startOf, actionCount, readAnswer}
-use Rattle.sheet.specs.SheetGame.{isLine, targetIn, targetOf, movesIn, movesOf, gameOf, markOf, unmark, gridOf, targetAt}
+use Rattle.sheet.specs.SheetGame.{isLine, targetIn, targetOf, movesIn, movesOf, gameOf}
+use Rattle.sheet.specs.code.Arrays.{markOf, unmark, gridOf, targetAt, absentMark}
 use Rattle.sheet.proofs.GridLaws.{target-next, cell-at, row-at}
 use Rattle.sheet.proofs.Accepted.{Read, read-is, ranges}
 use Rattle.sheet.specs.declared.kinds.Kind.{Kind}
 use Rattle.sheet.specs.declared.kinds.Kind.the-variants.{Position, Invalid}
 use Rattle.sheet.specs.declared.reading.Layout.{Layout}
+use Rattle.sheet.specs.Limits.{mostPositions, mostActions}
 
 -- kinds of positions
 
@@ -266,29 +268,29 @@ module _ (s : List ℕ) (r : Read s) where
   which absent = inl refl
   which (to q) = inr (q, refl)
 
-  unmarked : (t : Target) → ((q : ℕ) → t ≡ to q → q < 256) → unmark (markOf t) ≡ t
+  unmarked : (t : Target) → ((q : ℕ) → t ≡ to q → q < mostPositions) → unmark (markOf t) ≡ t
   unfolding unmark markOf
   unmarked absent f = refl
-  unmarked (to q) f = rw (ne-eqb q 256 (λ e. omega (arith, f q refl)))
+  unmarked (to q) f = rw (ne-eqb q absentMark (λ e. omega (arith, f q refl)))
 
-  small-target : (p x q : ℕ) → targetOf (targetsBody s) p x ≡ to q → q < 256
+  small-target : (p x q : ℕ) → targetOf (targetsBody s) p x ≡ to q → q < mostPositions
   unfolding gameOf
   small-target p x q e = omega (arith, legal-target p x q e .position, ranges s r .few-positions)
 
-  outside : (p x : ℕ) → both (ltb p 256) (ltb x 8) ≡ false → targetOf (targetsBody s) p x ≡ absent
+  outside : (p x : ℕ) → both (ltb p mostPositions) (ltb x mostActions) ≡ false → targetOf (targetsBody s) p x ≡ absent
   unfolding gameOf
   outside p x f =
       ⊎-elim
       (λ (e : targetOf (targetsBody s) p x ≡ absent). e)
       (λ (found : (q : ℕ) × (targetOf (targetsBody s) p x ≡ to q)).
       let l = legal-target p x (found .0) (found .1) in
-      let position : p < 256 = omega (arith, l .from-position, ranges s r .few-positions) in
-      let action : x < 8 = omega (arith, l .action, ranges s r .few-actions) in
+      let position : p < mostPositions = omega (arith, l .from-position, ranges s r .few-positions) in
+      let action : x < mostActions = omega (arith, l .action, ranges s r .few-actions) in
       absurd (not-both (both-true _ _ (lt-ltb _ _ position) (lt-ltb _ _ action)) f))
       (which (targetOf (targetsBody s) p x))
 
-  inside : (p x : ℕ) → p < 256 → x < 8
-      → targetOf (targetsBody s) p x ≡ unmark (getD (getD (gridOf (targetsBody s)) p []) x 256)
+  inside : (p x : ℕ) → p < mostPositions → x < mostActions
+      → targetOf (targetsBody s) p x ≡ unmark (getD (getD (gridOf (targetsBody s)) p []) x 0)
   unfolding gridOf targetOf
   inside p x h l =
       rw (row-at (targetsBody s) (length (targetsBody s) / 3) p h, cell-at (targetsBody s) (length (targetsBody s) / 3) p x l)
@@ -299,10 +301,10 @@ module _ (s : List ℕ) (r : Read s) where
   unfolding gameOf targetAt
   target-read p x =
       ⊎-elim
-      (λ (t : both (ltb p 256) (ltb x 8) ≡ true).
+      (λ (t : both (ltb p mostPositions) (ltb x mostActions) ≡ true).
       rw t (inside p x (ltb-true _ _ (both-left _ _ t)) (ltb-true _ _ (both-right _ _ t))))
-      (λ (f : both (ltb p 256) (ltb x 8) ≡ false). rw f (outside p x f))
-      (bool (both (ltb p 256) (ltb x 8)))
+      (λ (f : both (ltb p mostPositions) (ltb x mostActions) ≡ false). rw f (outside p x f))
+      (bool (both (ltb p mostPositions) (ltb x mostActions)))
 
 -- the lines of the C and U bodies, for those who walk them
 

@@ -7,5 +7,7 @@ pub mod ReadLaws
 pub mod GridLaws
 pub mod Accepted
 pub mod Legality
+pub mod MoveLaws
+pub mod Bodies
 pub mod Computing
 pub mod Cases

@@ -19,6 +19,7 @@ use Rattle.sheet.specs.declared.refusal.Refusal.{Refusal}
 use Rattle.sheet.specs.declared.reading.Layout.{Layout}
 use Rattle.sheet.specs.declared.reading.Reading.{Reading}
 use Rattle.sheet.specs.declared.reading.Reading.the-variants.{Refused}
+use Rattle.sheet.specs.Limits.{mostPositions}
 
 pub number-told : (r x : Refusal) (n : ℕ) → r ≡ x → n ≡ numberOf x → n ≡ numberOf r
 number-told r x n e f = f ∙ ap numberOf (sym e)
@@ -34,7 +35,7 @@ pub layout-is : (s h : List ℕ) (a b d : ℕ) (x y z w : Place) → h ≡ bodyO
 unfolding layoutOf startOf actionCount delayOf
 layout-is s h a b d x y z w e f g i j k l m = rw (f, g, i, e, j, k, l, m)
 
-pub few-positions : (p : List ℕ) (r : Bool) → r ≡ positionsOk p → not r ≡ false → length p ≤ 256
+pub few-positions : (p : List ℕ) (r : Bool) → r ≡ positionsOk p → not r ≡ false → length p ≤ mostPositions
 unfolding positionsOk
 few-positions p r e f = leb-true _ _ (both-left _ _ (both-right _ _ (passed e f)))
 

@@ -13,7 +13,9 @@ use borrow.Author.Needs.{needs}
 use borrow.Author.Tests.{le-leb, lt-leb, leb-false}
 use Rattle.theory.specs.Strategy.{initialLength}
 use Rattle.theory.proofs.Fold.{bool, below?}
-use Rattle.sheet.specs.Checks.{powerTo, nodesOf, sizeOk}
+use Rattle.sheet.specs.Checks.{nodesOf, sizeOk}
+use Rattle.sheet.specs.code.Steps.{powerTo}
+use Rattle.sheet.specs.Limits.{mostPositions, mostActions, mostDelay, mostNodes, mostWords, mostPower}
 
 pub product-small : {r m w x : ℕ} → r ≤ m → w ≡ x → x < 256 → r * w ≤ m * 256
 product-small h e l = mul-le-mul h (omega arith)
@@ -25,11 +27,11 @@ module _ (b : ℕ) where
   pub power-again : (i r w : ℕ) → r ≡ b ^ i → w ≡ b → r * w ≡ b ^ (i + 1)
   power-again i r w e f = rw (add-one i, pow-suc b i, e, f)
 
-  power-cut : (e : ℕ) → 65536 < b ^ e → 65536 ≡ powerTo b e
+  power-cut : (e : ℕ) → mostPower < b ^ e → mostPower ≡ powerTo b e
   unfolding powerTo
-  power-cut e h = rw (lt-leb (b ^ e) 65536 h)
+  power-cut e h = rw (lt-leb (b ^ e) mostPower h)
 
-  base-some : (r w : ℕ) → w ≡ b → 65536 < r * w → 0 < b
+  base-some : (r w : ℕ) → w ≡ b → mostPower < r * w → 0 < b
   base-some r w f h =
       ⊎-elim
       (λ (l : 0 < b). l)
@@ -37,44 +39,44 @@ module _ (b : ℕ) where
       (below? 0 b)
 
   -- once the product is too large, so is the power
-  pub power-over : (e i r w : ℕ) → i < e → r ≡ b ^ i → w ≡ b → 65536 < r * w → 65536 ≡ powerTo b e
+  pub power-over : (e i r w : ℕ) → i < e → r ≡ b ^ i → w ≡ b → mostPower < r * w → mostPower ≡ powerTo b e
   power-over e i r w l q f h =
       let next = rw (power-again i r w q f, add-one i) at h in
       let more : b ^ suc i ≤ b ^ e = pow-le-pow-right (base-some r w f h) (omega arith) in
       power-cut e (omega arith)
 
-  pub power-is : (e i r : ℕ) → i ≤ e → e ≤ i → r ≡ b ^ i → r ≤ 65536 → r ≡ powerTo b e
+  pub power-is : (e i r : ℕ) → i ≤ e → e ≤ i → r ≡ b ^ i → r ≤ mostPower → r ≡ powerTo b e
   unfolding powerTo
   power-is e i r l g q h =
       let done : i ≡ e = omega arith in
       let same : r ≡ b ^ e = rw done at q in
-      rw (le-leb (b ^ e) 65536 (rw same at h)) same
+      rw (le-leb (b ^ e) mostPower (rw same at h)) same
 
 pub ruleset powers = (needs, power-first, power-again, power-over, power-is)
 
 -- cutting the power off at 65,536 does not change how the nodes compare with 16,384
-cut-same : (n x : ℕ) → leb (n * cond (leb x 65536) x 65536) 16384 ≡ leb (n * x) 16384
+cut-same : (n x : ℕ) → leb (n * cond (leb x mostPower) x mostPower) mostNodes ≡ leb (n * x) mostNodes
 cut-same n x =
     ⊎-elim
-    (λ (t : leb x 65536 ≡ true). rw t)
-    (λ (f : leb x 65536 ≡ false).
+    (λ (t : leb x mostPower ≡ true). rw t)
+    (λ (f : leb x mostPower ≡ false).
     rw f
     (⊎-elim
     (λ (l : 0 < n).
-    let big : 1 * 65536 ≤ n * 65536 = mul-le-mul-right 65536 l in
-    let more : n * 65536 ≤ n * x = mul-le-mul-left n (le-of-lt (leb-false x 65536 f)) in
-    lt-leb (n * 65536) 16384 (omega arith) ∙ sym (lt-leb (n * x) 16384 (omega arith)))
-    (λ (z : n ≤ 0). let none : n ≡ 0 = omega arith in rw (none, zero-mul 65536, zero-mul x))
+    let big : 1 * mostPower ≤ n * mostPower = mul-le-mul-right mostPower l in
+    let more : n * mostPower ≤ n * x = mul-le-mul-left n (le-of-lt (leb-false x mostPower f)) in
+    lt-leb (n * mostPower) mostNodes (omega arith) ∙ sym (lt-leb (n * x) mostNodes (omega arith)))
+    (λ (z : n ≤ 0). let none : n ≡ 0 = omega arith in rw (none, zero-mul mostPower, zero-mul x))
     (below? 0 n)))
-    (bool (leb x 65536))
+    (bool (leb x mostPower))
 
-pub size-is : (p : List ℕ) (a d n : ℕ) → n ≡ length p * powerTo a (d / 2) → leb n 16384 ≡ sizeOk p a d
+pub size-is : (p : List ℕ) (a d n : ℕ) → n ≡ length p * powerTo a (d / 2) → leb n mostNodes ≡ sizeOk p a d
 unfolding sizeOk nodesOf powerTo
 size-is p a d n e = rw e (cut-same (length p) (a ^ (d / 2)))
 
 -- so many positions as two bytes can say
-pub nodes-most : {p w : ℕ} → p < 65536 → w ≤ 65536 → p * w ≤ 65536 * 65536
-nodes-most h i = mul-le-mul {n₂ = 65536} (le-of-lt h) i
+pub nodes-most : {p w : ℕ} → p < mostPower → w ≤ mostPower → p * w ≤ mostPower * mostPower
+nodes-most h i = mul-le-mul {n₂ = mostPower} (le-of-lt h) i
 
 -- nodes and first words, v the delay as a number and w a power
 
@@ -87,23 +89,23 @@ module _ (a d v w : ℕ) (ev : v ≡ d) where
 
 pub ruleset sizes = (needs, size-is, nodes-is, nodes-most, words-is)
 
--- at most 8 actions, 3 in a word
-pub power-bound : (a n : ℕ) → a ≤ 8 → n ≤ 3 → a ^ n ≤ 512
+-- three actions make a word at most
+pub power-bound : (a n : ℕ) → a ≤ mostActions → n ≤ 3 → a ^ n ≤ mostWords
 power-bound a n h i = le-trans (pow-le-pow-left h n) (pow-le-pow-right (omega arith) i)
 
 -- such a power is not cut off
-pub small-power : (a n : ℕ) → a ^ n ≤ 512 → powerTo a n ≡ a ^ n
+pub small-power : (a n : ℕ) → a ^ n ≤ mostWords → powerTo a n ≡ a ^ n
 unfolding powerTo
-small-power a n h = rw (le-leb (a ^ n) 65536 (omega arith))
+small-power a n h = rw (le-leb (a ^ n) mostPower (omega arith))
 
--- so at most 8 actions and a delay of at most 6 give document 01's numbers; n nodes and w first words, as the code counts them
+-- so the most actions and the longest delay give document 01's numbers; n nodes and w first words, as the code counts them
 
-module _ (a d : ℕ) (few : a ≤ 8) (short : d ≤ 6) where
+module _ (a d : ℕ) (few : a ≤ mostActions) (short : d ≤ mostDelay) where
   pub nodes-small : (p n : ℕ) → n ≡ p * powerTo a (d / 2) → n ≡ nodesOf p a d
   unfolding nodesOf
   nodes-small p n e = e ∙ ap (λ x. p * x) (small-power a (d / 2) (power-bound a (d / 2) few (omega arith)))
 
-  pub nodes-few : (p n : ℕ) → p ≤ 256 → n ≡ p * powerTo a (d / 2) → n ≤ 131072
+  pub nodes-few : (p n : ℕ) → p ≤ mostPositions → n ≡ p * powerTo a (d / 2) → n ≤ mostPositions * mostWords
   unfolding nodesOf
   nodes-few p n h e = rw (nodes-small p n e) (mul-le-mul h (power-bound a (d / 2) few (omega arith)))
 

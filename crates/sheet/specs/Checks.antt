@@ -1,12 +1,12 @@
 -- What each of the checks 2 to 7 of a game sheet asks ("Reading a yard sheet"). h, p, c and u are the S, P, C and U bodies.
 -- Assumes nothing.
 use Prim.Native.Nat.{ℕ, _+_, _-_, _*_, _/_, _%_, _^_}
-use mathlib.Core.Bool.{Bool, false, cond}
+use mathlib.Core.Bool.{Bool, cond}
 use mathlib.Core.List.{List}
 use lib.Dec.{eqb, leb, ltb}
 use lib.ListN.{length, getD}
 use Rattle.theory.specs.Fold.{both, either, allBelow, anyBelow}
-use Rattle.sheet.specs.Limits.{mostPositions, mostActions, mostDelay, mostMoves, mostNodes, mostPower}
+use Rattle.sheet.specs.Limits.{mostPositions, mostActions, mostDelay, mostMoves, mostNodes}
 use Rattle.sheet.specs.Kinds.{knownAt, controllerAt, environmentAt}
 
 -- 2: "positions not 1 to 256, or a P byte over 3"
@@ -60,10 +60,6 @@ hasLine w b n q = anyBelow (beginsAt w b q) n
 unfoldable pub leavesAt : List ℕ → List ℕ → List ℕ → ℕ → Bool
 leavesAt p c u q = cond (controllerAt p q) (hasLine 3 c (length c / 3) q) (hasLine 2 u (length u / 2) q)
 
--- the same, as code has it: from the positions that the C lines and the U lines begin with
-unfoldable pub leavesBy : List ℕ → List Bool → List Bool → ℕ → Bool
-leavesBy p targets moves q = cond (controllerAt p q) (getD targets q false) (getD moves q false)
-
 -- 6: "a position without a move"
 unfoldable pub allLeave : List ℕ → List ℕ → List ℕ → Bool
 allLeave p c u = allBelow (leavesAt p c u) (length p)
@@ -71,10 +67,6 @@ allLeave p c u = allBelow (leavesAt p c u) (length p)
 -- the number of document 01's pairs: "positions × A^L", L the delay's half rounded down
 unfoldable pub nodesOf : ℕ → ℕ → ℕ → ℕ
 nodesOf positions actions delay = positions * actions ^ (delay / 2)
-
--- a power as code has it: cut off where it is more than any size asked about
-unfoldable pub powerTo : ℕ → ℕ → ℕ
-powerTo b e = cond (leb (b ^ e) mostPower) (b ^ e) mostPower
 
 -- 7: "positions × A^L over 16,384"
 unfoldable pub sizeOk : List ℕ → ℕ → ℕ → Bool

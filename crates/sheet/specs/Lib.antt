@@ -6,4 +6,5 @@ pub mod Kinds
 pub mod Checks
 pub mod Reading
 pub mod SheetGame
+pub mod code
 pub mod cases

@@ -1,5 +1,5 @@
 -- Document 01's numbers for game sheets, named once. Assumes nothing.
-use Prim.Native.Nat.{ℕ}
+use Prim.Native.Nat.{ℕ, _+_}
 
 -- an offset and a length have two bytes each ("each of two bytes, low byte first")
 abbrev pub width : ℕ
@@ -8,6 +8,10 @@ width = 2
 -- "positions not 1 to 256"
 abbrev pub mostPositions : ℕ
 mostPositions = 256
+
+-- the index of first lines has an entry for each position, and one for the end of the last position's
+abbrev pub indexEntries : ℕ
+indexEntries = mostPositions + 1
 
 -- "A is the number of commands, 1 to 8"; a row of the grid has as many targets
 abbrev pub mostActions : ℕ

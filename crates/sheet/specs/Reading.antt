@@ -63,12 +63,6 @@ readAnswer s =
     (check (allLeave (positionsBody s) (targetsBody s) (movesBody s)) 6
     (check (sizeOk (positionsBody s) (actionCount s) (delayOf s)) 7 (accepted (layoutOf s))))))))
 
--- checks 4 to 7 alone, as code has them: p, c and u are the bodies, l the layout
-abbrev pub linesAnswer : List ℕ → List ℕ → List ℕ → Layout → Answer Layout
-linesAnswer p c u l =
-    check (targetsOk p (l .actions) c) 4
-    (check (movesOk p u) 5 (check (allLeave p c u) 6 (check (sizeOk p (l .actions) (l .delay)) 7 (accepted l))))
-
 -- document 01's number and values for every case of the code's answer
 abbrev pub readingMeans : Reading → Answer Layout
 readingMeans (Accepted l) = accepted l

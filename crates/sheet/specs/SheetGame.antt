@@ -1,12 +1,11 @@
--- The game that a game sheet means, read off its bytes alone, and the grid of targets. Assumes nothing.
+-- The game that a game sheet means, read off its bytes alone. Assumes nothing.
 use Prim.Native.Nat.{ℕ, zero, suc, _+_, _*_, _/_}
 use mathlib.Core.Bool.{Bool, cond}
 use mathlib.Core.List.{List, [], _∷_}
-use lib.Dec.{eqb, ltb}
+use lib.Dec.{eqb}
 use lib.ListN.{length, getD}
-use Rattle.theory.specs.Fold.{both, tabulate}
+use Rattle.theory.specs.Fold.{both}
 use Rattle.theory.specs.Game.{Target, absent, to, Game}
-use Rattle.sheet.specs.Limits.{mostPositions, mostActions}
 use Rattle.sheet.specs.Kinds.{controllerAt, safeAt}
 use Rattle.sheet.specs.Reading.{positionsBody, targetsBody, movesBody, startOf, actionCount}
 
@@ -44,29 +43,3 @@ gameOf s =
       target = targetOf (targetsBody s);
       moves = movesOf (movesBody s);
     }
-
--- the grid's mark for an absent target: no position has it
-abbrev pub absentMark : ℕ
-absentMark = 256
-
-unfoldable pub markOf : Target → ℕ
-markOf absent = absentMark
-markOf (to q) = q
-
-unfoldable pub rowOf : List ℕ → ℕ → ℕ → List ℕ
-rowOf c n q = tabulate (λ x. markOf (targetIn c q x n)) 0 mostActions
-
--- the grid after the first n lines of the C body
-unfoldable pub gridAfter : List ℕ → ℕ → List (List ℕ)
-gridAfter c n = tabulate (rowOf c n) 0 mostPositions
-
--- "The C body means a grid of targets: one row for each position, eight targets a row, some absent"
-unfoldable pub gridOf : List ℕ → List (List ℕ)
-gridOf c = gridAfter c (length c / 3)
-
--- what a grid says of position q and action x
-unfoldable pub unmark : ℕ → Target
-unmark t = cond (eqb t absentMark) absent (to t)
-
-unfoldable pub targetAt : List (List ℕ) → ℕ → ℕ → Target
-targetAt g q x = cond (both (ltb q mostPositions) (ltb x mostActions)) (unmark (getD (getD g q []) x absentMark)) absent

@@ -1,10 +1,10 @@
-// The grid of targets that the C body means: a row for each position, eight targets a row, 256 where there is none.
+// The grid of targets that the C body means: a row for each position, a target for each action, ABSENT where there is none.
 use crate::form::wide;
 use crate::limits::ABSENT;
 use crate::limits::ROW;
 use crate::limits::ROWS;
 ghost use mathlib.Core.Path.{_≡_};
-ghost use Rattle.sheet.specs.SheetGame.{gridOf};
+ghost use Rattle.sheet.specs.code.Arrays.{gridOf, unmark, targetAt};
 
 // A line with an action that no row has is left out, so the function is total.
 pub fn grid_of(c: &[u8]) -> [[u16; ROW]; ROWS]
@@ -24,4 +24,17 @@ pub fn grid_of(c: &[u8]) -> [[u16; ROW]; ROWS]
         k += 1;
     }
     grid
+}
+
+// The target of action x at position q, as the grid marks it; there is none outside the grid.
+pub fn target(grid: &[[u16; ROW]; ROWS], q: usize, x: usize) -> u16
+    ensures { λ r. ⌜ unmark r ≡ targetAt (now (grid .entry)) q x ⌝ }
+{
+    if ROWS <= q {
+        return ABSENT;
+    }
+    if ROW <= x {
+        return ABSENT;
+    }
+    grid[q][x]
 }

@@ -3,6 +3,7 @@ use crate::limits::MOST_POSITIONS;
 ghost use mathlib.Core.Path.{_≡_};
 ghost use Rattle.sheet.specs.Kinds.{kindOf, kindAt, knownAt, controllerAt, environmentAt, safeAt};
 ghost use Rattle.sheet.specs.Checks.{positionsOk};
+ghost use Rattle.theory.specs.Delay.{onRight};
 
 pub enum Kind {
     Position { controller: bool, safe: bool },
@@ -77,6 +78,16 @@ pub fn safe_at(p: &[u8], q: usize) -> bool
         } => safe,
         Kind::Invalid => false,
     }
+}
+
+// Is this position of the side whose nodes can fall: the controller's at even delays, the environment's at odd ones?
+pub fn on_right(p: &[u8], odd: bool, q: usize) -> bool
+    ensures { λ r. ⌜ r ≡ onRight odd (controllerAt (now (p .entry))) q ⌝ }
+{
+    if odd {
+        return !controller_at(p, q);
+    }
+    controller_at(p, q)
 }
 
 pub(crate) fn known_at(p: &[u8], q: usize) -> bool

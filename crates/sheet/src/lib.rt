@@ -6,4 +6,5 @@ pub mod kinds; // what the byte of a position says
 pub mod lines; // the lines of the C and U bodies
 pub mod size; // how many words and nodes
 pub mod reading; // reading a game sheet
-pub mod grid; // the grid of targets
+pub mod grid; // the grid of targets that the C body means
+pub mod moves; // the index of first lines that the U body means

@@ -16,8 +16,11 @@ pub const MOST_WORDS: usize = 512;
 pub const MOST_POWER: usize = 65536;
 
 // The grid of targets: a row for each position that there can be, a target for each action, and the mark of an absent one.
-pub const ROWS: usize = 256;
+pub const ROWS: usize = MOST_POSITIONS;
 
 pub const ROW: usize = 8;
 
 pub const ABSENT: u16 = 256;
+
+// The index of first lines: an entry for each position, and one for the end of the last position's.
+pub const INDEX: usize = MOST_POSITIONS + 1;

@@ -3,12 +3,14 @@ use crate::form::wide;
 use crate::kinds::controller_at;
 use crate::kinds::environment_at;
 use crate::limits::MOST_MOVES;
+use crate::limits::ROWS;
 ghost use mathlib.Core.Path.{_≡_};
 ghost use Prim.Native.Nat.{_+_, _*_, _≤_, _<_};
 ghost use lib.ListN.{length};
 ghost use Rattle.theory.specs.Fold.{tabulate};
 ghost use Rattle.sheet.specs.Limits.{mostPositions};
-ghost use Rattle.sheet.specs.Checks.{keyAt, risesAt, targetOk, targetsOk, moveOk, movesOk, hasLine, leavesBy, allLeave};
+ghost use Rattle.sheet.specs.Checks.{keyAt, risesAt, targetOk, targetsOk, moveOk, movesOk, hasLine, allLeave};
+ghost use Rattle.sheet.specs.code.Steps.{leavesBy};
 
 // The first two bytes of a line as one number, by which lines are ordered.
 fn key(b: &[u8], i: usize) -> usize
@@ -105,11 +107,11 @@ pub(crate) fn moves_ok(p: &[u8], u: &[u8]) -> bool
 }
 
 // For each position that there can be: does one of the first n lines begin with it? One pass over the lines.
-fn begun(width: usize, b: &[u8], n: usize) -> [bool; 256]
+fn begun(width: usize, b: &[u8], n: usize) -> [bool; ROWS]
     requires { ⌜ (1 ≤ width) × (width * n ≤ length (now b)) ⌝ }
-    ensures { λ r. ⌜ r ≡ tabulate (hasLine width (now (b .entry)) n) 0 256 ⌝ }
+    ensures { λ r. ⌜ r ≡ tabulate (hasLine width (now (b .entry)) n) 0 mostPositions ⌝ }
 {
-    let mut begun = [false; 256];
+    let mut begun = [false; ROWS];
     let mut k: usize = 0;
     while k < n {
         let from = wide(b[width * k]);
@@ -120,8 +122,8 @@ fn begun(width: usize, b: &[u8], n: usize) -> [bool; 256]
 }
 
 // Has position q a move of its own kind, with where the C and U lines begin?
-fn leaves_at(p: &[u8], targets: &[bool; 256], moves: &[bool; 256], q: usize) -> bool
-    requires { ⌜ q < 256 ⌝ }
+fn leaves_at(p: &[u8], targets: &[bool; ROWS], moves: &[bool; ROWS], q: usize) -> bool
+    requires { ⌜ q < mostPositions ⌝ }
     ensures { λ r. ⌜ r ≡ leavesBy (now (p .entry)) (now (targets .entry)) (now (moves .entry)) q ⌝ }
 {
     if controller_at(p, q) {

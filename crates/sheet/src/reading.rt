@@ -20,7 +20,8 @@ ghost use Prim.Native.Nat.{_≤_};
 ghost use lib.ListN.{length};
 ghost use Rattle.sheet.specs.Limits.{mostPositions};
 ghost use Rattle.sheet.specs.Checks.{headerOk};
-ghost use Rattle.sheet.specs.Reading.{layoutOf, readAnswer, linesAnswer, readingMeans, refusalNumber};
+ghost use Rattle.sheet.specs.Reading.{layoutOf, readAnswer, readingMeans, refusalNumber};
+ghost use Rattle.sheet.specs.code.Steps.{linesAnswer};
 
 // What an accepted reading carries: the start bytes and the places of the bodies.
 pub struct Layout {

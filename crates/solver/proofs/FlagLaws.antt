@@ -11,14 +11,15 @@ use borrow.Author.Tests.{le-leb, lt-leb}
 use Rattle.theory.specs.Fold.{tabulate}
 use Rattle.theory.specs.Answer.{accepted}
 use Rattle.theory.specs.Game.{Game, Legal}
-use Rattle.theory.specs.Rounds.{fell, kept, finalRanks}
-use Rattle.theory.specs.Delay.{initialWords, arena, goodWith, flags}
+use Rattle.theory.specs.Rounds.{fell, kept, finalRanks, keptBy}
+use Rattle.theory.specs.Delay.{initialWords, arena, goodWith, flags, flagBy}
 use Rattle.theory.proofs.Fold.{same-test, tabulate-zero, tabulate-same, length-tabulate}
 use Rattle.theory.proofs.Tables.{good-more}
 use Rattle.sheet.specs.Form.{partAt}
 use Rattle.sheet.specs.Reading.{positionsBody, startOf, delayOf, readAnswer}
 use Rattle.sheet.specs.Reading as reading
-use Rattle.sheet.specs.SheetGame.{gameOf, gridOf}
+use Rattle.sheet.specs.SheetGame.{gameOf}
+use Rattle.sheet.specs.code.Arrays.{gridOf, viewOf, firstsOf, bodiesGame}
 use Rattle.sheet.specs.declared.refusal.Refusal.{Refusal}
 use Rattle.sheet.specs.declared.reading.Layout.{Layout}
 use Rattle.sheet.specs.declared.reading.Reading.{Reading}
@@ -26,27 +27,26 @@ use Rattle.sheet.specs.declared.reading.Reading.the-variants.{Accepted, Refused
 use Rattle.sheet.proofs.Accepted.{read-is, ranges, carries}
 use Rattle.sheet.proofs.Legality.{controller-inside, legal-game}
 use Rattle.walk.specs.declared.level.Level.{Level}
-use Rattle.walk.specs.View.{viewOf}
-use Rattle.walk.specs.Nodes.{Sized}
-use Rattle.rounds.proofs.Filling.{filled, filled-none, filled-more, filled-done}
-use Rattle.solver.specs.Levels.{firstsOf, levelAt}
-use Rattle.solver.specs.Kept.{goodIn, firstWords}
-use Rattle.solver.specs.Solving.{bodiesGame}
+use Rattle.walk.specs.code.Nodes.{Sized}
+use Rattle.theory.proofs.Filling.{filled, filled-none, filled-more, filled-done}
+use Rattle.walk.specs.code.Levels.{levelAt, levelTo}
+use Rattle.solver.specs.code.Kept.{goodIn, firstWords}
 use Rattle.theory.specs.Buffer.{over}
-use Rattle.solver.specs.Flags.{flagWith, flagIn, countIn, flagsCount, flagsAfter}
-use Rattle.solver.proofs.LevelLaws.{words-is, level-sized}
-use Rattle.solver.proofs.GoodLaws.{good-is}
-use Rattle.solver.proofs.SolveLaws.{room-read, game-read}
+use Rattle.solver.specs.code.Flags.{flagWith, countIn, flagsCount, flagsAfter}
+use Rattle.walk.proofs.LevelLaws.{level-sized}
+use Rattle.solver.proofs.GoodLaws.{good-is, words-is}
+use Rattle.solver.proofs.SolveLaws.{room-read, game-read, is-level}
+use Rattle.sheet.specs.Limits.{mostPositions, mostActions, mostNodes}
 
 -- one flag
 
 module _ (p : List ℕ) (g : List (List ℕ)) (l : Level) (ranks : List ℕ) (v : ℕ) {r : Bool} (e : r ≡ goodIn p g l ranks v) where
-  pub flag-good : r ≡ true → 1 ≡ flagIn p g l ranks v
-  unfolding flagIn
+  pub flag-good : r ≡ true → 1 ≡ flagBy (goodIn p g l ranks) v
+  unfolding flagBy
   flag-good t = rw (← e, t)
 
-  pub flag-bad : r ≡ false → 0 ≡ flagIn p g l ranks v
-  unfolding flagIn
+  pub flag-bad : r ≡ false → 0 ≡ flagBy (goodIn p g l ranks) v
+  unfolding flagBy
   flag-bad t = rw (← e, t)
 
 pub ruleset a-flag = (needs, flag-good, flag-bad)
@@ -55,7 +55,7 @@ pub ruleset a-flag = (needs, flag-good, flag-bad)
 
 module _ (p : List ℕ) (g : List (List ℕ)) (l : Level) (ranks before : List ℕ) where
   abbrev entry : ℕ → ℕ
-  entry = flagIn p g l ranks
+  entry = flagBy (goodIn p g l ranks)
 
   pub flags-start : before ≡ filled entry 0 before
   flags-start = filled-none entry before
@@ -89,20 +89,23 @@ module _ (s : List ℕ) (rd : Reading) (e : reading.readingMeans rd ≡ readAnsw
     refused-flags ranks b = none-written s ranks b (sym (refused-count (length b)))
 
   module _ (l : Layout) (a : rd ≡ Accepted l) (p : List ℕ) (ep : p ≡ partAt s (l .positions)) (v : Level)
-      (is : v ≡ levelAt (length p) (l .start) (l .actions) (l .delay)) where
+      (made : v ≡ levelTo (length p) (l .start) (l .actions) (l .delay)) where
+    is : v ≡ levelAt (length p) (l .start) (l .actions) (l .delay)
+    is = is-level s rd e l a p ep v made
+
     answered : readAnswer s ≡ accepted l
     answered = sym e ∙ ap reading.readingMeans a
 
     pub sized-read : Sized (length p) v
     sized-read = rw is (level-sized (room-read s rd e l a p ep) (l .start))
 
-    pub few-words-read : v .words < 65536
-    few-words-read = let h = sized-read .few-words in omega arith
+    pub few-words-read : v .words ≤ mostNodes
+    few-words-read = sized-read .few-words
 
-    pub few-actions-read : v .actions < 256
-    few-actions-read = let h = sized-read .few-actions in omega arith
+    pub few-actions-read : v .actions ≤ mostActions
+    few-actions-read = sized-read .few-actions
 
-    pub start-read : v .start < 65536
+    pub start-read : v .start < mostPositions
     start-read =
         let c = carries s l answered in
         let r = ranges s (read-is s l answered .0) in
@@ -138,8 +141,8 @@ module _ (s : List ℕ) (rd : Reading) (e : reading.readingMeans rd ≡ readAnsw
 
     -- the flags over the arrays are the game's
     flag-is : (g : List (List ℕ)) → g ≡ gridOf (partAt s (l .targets)) → (ranks : List ℕ) (w : ℕ)
-        → flagIn p g v ranks w ≡ flagWith (gameOf s) (delayOf s) ranks w
-    unfolding flagIn flagWith
+        → flagBy (goodIn p g v ranks) w ≡ flagWith (gameOf s) (delayOf s) ranks w
+    unfolding flagBy flagWith
     flag-is g eg ranks w =
         ap (λ b. cond b 1 0)
         (ap (λ x. goodIn p g x ranks w) is
@@ -155,7 +158,7 @@ module _ (s : List ℕ) (rd : Reading) (e : reading.readingMeans rd ≡ readAnsw
       front-count = length-take-le n b h
 
       module _ (c : List ℕ) (g : List (List ℕ)) (t : List ℕ) (ec : c ≡ partAt s (l .targets)) (eg : g ≡ gridOf c)
-          (et : t ≡ tabulate (flagIn p g v ranks) 0 (firstWords v)) where
+          (et : t ≡ tabulate (flagBy (goodIn p g v ranks)) 0 (firstWords v)) where
         t-length : length t ≡ n
         t-length = ap length et ∙ length-tabulate _ 0 (firstWords v) ∙ sym en
 
@@ -179,7 +182,7 @@ pub ruleset flagging =
 
 module _ (G : Game) (legal : Legal G) (d : ℕ) (ranks : List ℕ) (front : take (arena G d .nodes) ranks ≡ finalRanks (arena G d)) where
   same-rank : (k : ℕ) → k < arena G d .nodes → kept (arena G d) ranks k ≡ kept (arena G d) (finalRanks (arena G d)) k
-  unfolding kept fell
+  unfolding keptBy fell
   same-rank k h = rw (← front, getD-take (arena G d .nodes) ranks k 0 h)
 
   good-same : (v : ℕ) → v < initialWords G d → goodWith G d ranks v ≡ goodWith G d (finalRanks (arena G d)) v
@@ -188,7 +191,7 @@ module _ (G : Game) (legal : Legal G) (d : ℕ) (ranks : List ℕ) (front : take
       same-test _ _ (good-more G legal d _ _ v h (λ k n e. sym (same-rank k n) ∙ e)) (good-more G legal d _ _ v h (λ k n e. same-rank k n ∙ e))
 
   pub flags-final : tabulate (flagWith G d ranks) 0 (initialWords G d) ≡ flags G d
-  unfolding flags flagWith
+  unfolding flags flagWith flagBy
   flags-final = tabulate-same _ _ 0 (initialWords G d) (λ v h. rw (good-same v h))
 
 -- for an accepted sheet, with room

@@ -1,10 +1,10 @@
 -- Good first words, as the code of src/words.rt finds them, and that they are theory's. Assumes nothing.
-use Prim.Native.Nat.{ℕ, _+_, _*_, _/_, _%_, _^_, _≤_, _<_}
+use Prim.Native.Nat.{ℕ, _+_, _*_, _/_, _%_, _^_, _≤_, _<_, suc}
 use mathlib.Core.Path.{_≡_, refl, sym, _∙_, ap, fun-ext}
 use mathlib.Core.Bool.{Bool, true, false, not}
 use mathlib.Core.List.{List}
 use native.Mathlib.Omega.{arith}
-use native.Mathlib.Nat.{mul-le-mul, mod-lt}
+use native.Mathlib.Nat.{mul-le-mul, mod-lt, pow-suc}
 use mir.Val.{Fits}
 use mir.Syntax.{w64}
 use lib.Dec.{eqb}
@@ -13,34 +13,37 @@ use borrow.Author.Needs.{needs}
 use borrow.Author.Tests.{not-true, not-false}
 use Rattle.theory.specs.Fold.{both, anyBelow}
 use Rattle.theory.specs.Game.{Game}
-use Rattle.theory.specs.Rounds.{fell, finalRanks, kept}
+use Rattle.theory.specs.Rounds.{fell, finalRanks, kept, keptBy}
 use Rattle.theory.specs.Delay.{odd, words, onRight, arena, keptAt, goodBy, goodFrom, goodWith, winning, initialWords}
-use Rattle.theory.proofs.Fold.{not-not, both-true, any-none, any-holds, any-again, any-done, both-none, both-second}
-use Rattle.sheet.specs.Kinds.{safeAt}
-use Rattle.sheet.specs.SheetGame.{unmark}
+use Rattle.theory.proofs.Fold.{not-not, both-true, any-none, any-holds, any-again, any-done, both-none, both-second, bool}
+use Rattle.sheet.specs.Kinds.{safeAt, controllerAt}
+use Rattle.sheet.specs.code.Arrays.{unmark, targetAt, viewOf, absentMark}
 use Rattle.walk.specs.declared.level.Level.{Level}
-use Rattle.walk.specs.View.{cellAt, viewOf, levelArena, arenaOf}
-use Rattle.walk.specs.Nodes.{Sized}
+use Rattle.walk.specs.code.Levels.{arenaOf}
+use Rattle.walk.specs.code.Nodes.{Sized}
 use Rattle.walk.proofs.Products.{product-small, product-fits, sum-fits}
-use Rattle.walk.proofs.WalkLaws.{unmark-absent, unmark-to}
-use Rattle.rounds.specs.Falling.{rightAt}
-use Rattle.solver.specs.Levels.{levelAt}
-use Rattle.solver.specs.Kept.{keptIn, goodOn, goodIn, wordsOn, firstWords}
-use Rattle.solver.proofs.LevelLaws.{arena-is, words-is}
+use Rattle.sheet.proofs.GridLaws.{unmark-absent, unmark-to}
+use Rattle.walk.specs.code.Levels.{levelAt}
+use Rattle.solver.specs.code.Kept.{onSide, movelessGame, goodIn, wordsOn, firstWords}
+use Rattle.walk.proofs.LevelLaws.{arena-is}
+use Rattle.sheet.specs.Limits.{mostActions, mostNodes, mostPower, mostPositions}
+use mathlib.Core.Logic.{⊎-elim}
+use Rattle.theory.proofs.Pending.{odd-delay, even-delay}
+use Rattle.theory.specs.Strategy.{initialLength}
 
 -- kept nodes: r is the answer on the side
 
-module _ (p : List ℕ) (l : Level) (ranks : List ℕ) (k : ℕ) {r : Bool} (e : r ≡ rightAt (l .odd) p (k / l .words)) where
-  pub kept-wrong : not r ≡ true → false ≡ keptIn p l ranks k
-  unfolding keptIn
+module _ (p : List ℕ) (l : Level) (ranks : List ℕ) (k : ℕ) {r : Bool} (e : r ≡ onRight (l .odd) (controllerAt p) (k / l .words)) where
+  pub kept-wrong : not r ≡ true → false ≡ keptBy (onSide p l) ranks k
+  unfolding keptBy onSide
   kept-wrong n = sym (both-none _ _ (sym e ∙ not-true r n))
 
-  pub kept-past : not r ≡ false → length ranks ≤ k → true ≡ keptIn p l ranks k
-  unfolding keptIn fell
+  pub kept-past : not r ≡ false → length ranks ≤ k → true ≡ keptBy (onSide p l) ranks k
+  unfolding keptBy onSide fell
   kept-past n h = sym (both-true _ _ (sym e ∙ not-false r n) (rw (List·getD-eq-default ranks 0 h)))
 
-  pub kept-rank : not r ≡ false → eqb (getD ranks k 0) 0 ≡ keptIn p l ranks k
-  unfolding keptIn fell
+  pub kept-rank : not r ≡ false → eqb (getD ranks k 0) 0 ≡ keptBy (onSide p l) ranks k
+  unfolding keptBy onSide fell
   kept-rank n = sym (both-second _ _ (sym e ∙ not-false r n) ∙ not-not (eqb (getD ranks k 0) 0))
 
 pub ruleset keeping = (needs, kept-wrong, kept-past, kept-rank)
@@ -55,64 +58,68 @@ pub words-even : (l : Level) → l .odd ≡ false → l .words ≡ firstWords l
 unfolding firstWords wordsOn
 words-even l e = rw e
 
-pub few-words-fit : {w a : ℕ} → w < 65536 → a < 256 → Fits w64 (w * a)
+pub few-words-fit : {w a : ℕ} → w ≤ mostNodes → a ≤ mostActions → Fits w64 (w * a)
 few-words-fit {w} {a} h k = record { fits = omega (arith, product-small {a = w} {b = a} (omega arith) (omega arith)) }
 
 pub ruleset counting = (needs, words-odd, words-even, few-words-fit)
 
-pub first-words-few : {m : ℕ} {l : Level} → Sized m l → firstWords l ≤ 131072
+pub first-words-few : {m : ℕ} {l : Level} → Sized m l → firstWords l ≤ mostNodes * mostActions
 unfolding firstWords wordsOn
 first-words-few {m} {l} s = by (l .odd)
   where
-    by : (b : Bool) → wordsOn b l ≤ 131072
+    by : (b : Bool) → wordsOn b l ≤ mostNodes * mostActions
     by true = mul-le-mul (s .few-words) (s .few-actions)
     by false = let h = s .few-words in omega arith
 
 -- a node number fits a word
 
-pub node-fits : {m q : ℕ} {l : Level} → Sized m l → q < 65536 → Fits w64 (q * l .words)
-node-fits s h = let f = s .few-words in product-fits (omega arith) (omega arith)
+pub node-fits : {m q t : ℕ} {l : Level} → Sized m l → q ≡ t → t < mostPower → Fits w64 (q * l .words)
+node-fits s e h = let f = s .few-words in product-fits (omega arith) (omega arith)
 
-pub even-fits : {m q v : ℕ} {l : Level} → Sized m l → q < 65536 → v < firstWords l → Fits w64 (q * l .words + v)
+pub start-fits : {m q : ℕ} {l : Level} → Sized m l → q < mostPositions → Fits w64 (q * l .words)
+start-fits s h = let f = s .few-words in product-fits (omega arith) (omega arith)
+
+pub even-fits : {m q v : ℕ} {l : Level} → Sized m l → q < mostPositions → v < firstWords l → Fits w64 (q * l .words + v)
 even-fits s h k = let f = s .few-words in let g = first-words-few s in sum-fits (omega arith) (omega arith) (omega arith)
 
-pub odd-fits : {m q : ℕ} (v : ℕ) {l : Level} → Sized m l → q < 65536 → Fits w64 (q * l .words + v % l .words)
-odd-fits v s h =
+pub odd-fits : {m q t : ℕ} (v : ℕ) {l : Level} → Sized m l → q ≡ t → t < mostPower → Fits w64 (q * l .words + v % l .words)
+odd-fits v s e h =
     let f = s .few-words in
     let r = mod-lt v (s .some-word) in
     sum-fits (omega arith) (omega arith) (omega arith)
 
 module _ (p : List ℕ) (g : List (List ℕ)) (l : Level) (ranks : List ℕ) (v : ℕ) where
-  by-parity : {b : Bool} → l .odd ≡ b → goodIn p g l ranks v ≡ goodOn b p g l ranks v
+  by-parity : {b : Bool} → l .odd ≡ b → goodIn p g l ranks v ≡ goodBy b (movelessGame p g l) (l .words) (keptBy (onSide p l) ranks) v
   unfolding goodIn
-  by-parity e = ap (λ b. goodOn b p g l ranks v) e
+  by-parity e = ap (λ b. goodBy b (movelessGame p g l) (l .words) (keptBy (onSide p l) ranks) v) e
 
-  pub good-even : {r : Bool} → not (l .odd) ≡ true → r ≡ keptIn p l ranks (l .start * l .words + v) → r ≡ goodIn p g l ranks v
-  unfolding goodOn
+  pub good-even : {r : Bool} → not (l .odd) ≡ true → r ≡ keptBy (onSide p l) ranks (l .start * l .words + v) → r ≡ goodIn p g l ranks v
+  unfolding goodBy viewOf
   good-even n e = e ∙ sym (by-parity (not-true (l .odd) n))
 
   module _ {s : Bool} (n : not (l .odd) ≡ false) (e : s ≡ safeAt p (l .start)) where
     pub good-unsafe : not s ≡ true → false ≡ goodIn p g l ranks v
-    unfolding goodOn
+    unfolding goodBy viewOf
     good-unsafe x = sym (by-parity (not-false (l .odd) n) ∙ both-none _ _ (sym e ∙ not-true s x))
 
-    module _ (t : ℕ) (x : not s ≡ false) (c : unmark t ≡ cellAt g (l .start) (v / l .words)) where
-      reached : goodIn p g l ranks v ≡ keptAt (keptIn p l ranks) (l .words) (v % l .words) (unmark t)
-      unfolding goodOn
+    module _ (t : ℕ) (x : not s ≡ false) (c : unmark t ≡ targetAt g (l .start) (v / l .words)) where
+      reached : goodIn p g l ranks v ≡ keptAt (keptBy (onSide p l) ranks) (l .words) (v % l .words) (unmark t)
+      unfolding goodBy viewOf
       reached =
           by-parity (not-false (l .odd) n)
           ∙ both-second _ _ (sym e ∙ not-false s x)
-          ∙ ap (keptAt (keptIn p l ranks) (l .words) (v % l .words)) (sym c)
+          ∙ ap (keptAt (keptBy (onSide p l) ranks) (l .words) (v % l .words)) (sym c)
 
-      pub good-absent : t ≡ 256 → false ≡ goodIn p g l ranks v
+      pub good-absent : t ≡ absentMark → false ≡ goodIn p g l ranks v
       unfolding keptAt
-      good-absent z = sym (reached ∙ ap (keptAt (keptIn p l ranks) (l .words) (v % l .words)) (unmark-absent z))
+      good-absent z = sym (reached ∙ ap (keptAt (keptBy (onSide p l) ranks) (l .words) (v % l .words)) (unmark-absent z))
 
-      pub good-odd : {r : Bool} → (t ≡ 256 → ⊥) → r ≡ keptIn p l ranks (t * l .words + v % l .words) → r ≡ goodIn p g l ranks v
+      pub good-odd : {w : ℕ} {r : Bool} → (t ≡ absentMark → ⊥) → w ≡ t → r ≡ keptBy (onSide p l) ranks (w * l .words + v % l .words)
+          → r ≡ goodIn p g l ranks v
       unfolding keptAt
-      good-odd z f = f ∙ sym (reached ∙ ap (keptAt (keptIn p l ranks) (l .words) (v % l .words)) (unmark-to z))
+      good-odd z d f = (rw d at f) ∙ sym (reached ∙ ap (keptAt (keptBy (onSide p l) ranks) (l .words) (v % l .words)) (unmark-to z))
 
-pub ruleset goodness = (needs, node-fits, even-fits, odd-fits, good-even, good-unsafe, good-absent, good-odd)
+pub ruleset goodness = (needs, node-fits, start-fits, even-fits, odd-fits, good-even, good-unsafe, good-absent, good-odd)
 
 -- a search for a good word
 
@@ -139,22 +146,17 @@ pub ruleset searching = (needs, good-found, good-again, good-none, good-start, g
 
 -- the arrays' kept nodes and good words are those of their game
 
-right-is : (p : List ℕ) (g : List (List ℕ)) (u f : List ℕ) (s a q : ℕ) (b : Bool) → rightAt b p q ≡ onRight b (viewOf p g u f s a) q
-unfolding rightAt onRight viewOf
-right-is p g u f s a q true = refl
-right-is p g u f s a q false = refl
-
 pub kept-is : (p : List ℕ) (g : List (List ℕ)) (u f : List ℕ) (l : Level) (ranks : List ℕ) (k : ℕ)
-    → keptIn p l ranks k ≡ kept (arenaOf p g u f l) ranks k
-unfolding keptIn kept arenaOf levelArena
-kept-is p g u f l ranks k =
-    ap (λ b. both b (not (fell ranks k))) (right-is p g u f (l .start) (l .actions) (k / l .words) (l .odd))
+    → keptBy (onSide p l) ranks k ≡ kept (arenaOf p g u f l) ranks k
+unfolding keptBy onSide arenaOf viewOf
+kept-is p g u f l ranks k = refl
 
-good-on-is : (p : List ℕ) (g : List (List ℕ)) (u f : List ℕ) (l : Level) (ranks : List ℕ) (v : ℕ) (b : Bool)
-    → goodOn b p g l ranks v ≡ goodBy b (viewOf p g u f (l .start) (l .actions)) (l .words) (keptIn p l ranks) v
-unfolding goodOn goodBy viewOf
-good-on-is p g u f l ranks v true = refl
-good-on-is p g u f l ranks v false = refl
+-- a first word does not ask about moves
+moveless : (p : List ℕ) (g : List (List ℕ)) (u f : List ℕ) (l : Level) (keeps : ℕ → Bool) (v : ℕ) (b : Bool)
+    → goodBy b (movelessGame p g l) (l .words) keeps v ≡ goodBy b (viewOf p g u f (l .start) (l .actions)) (l .words) keeps v
+unfolding goodBy viewOf
+moveless p g u f l keeps v true = refl
+moveless p g u f l keeps v false = refl
 
 module _ (p : List ℕ) (g : List (List ℕ)) (u f : List ℕ) (start actions d : ℕ) where
   abbrev level : Level
@@ -163,10 +165,24 @@ module _ (p : List ℕ) (g : List (List ℕ)) (u f : List ℕ) (start actions d 
   abbrev game : Game
   game = viewOf p g u f start actions
 
+  pub words-is : firstWords level ≡ initialWords game d
+  unfolding firstWords wordsOn initialWords viewOf
+  words-is =
+      ⊎-elim
+      (λ (e : odd d ≡ true).
+      let m = odd-delay d e in
+      let q : initialLength d ≡ suc (d / 2) = omega arith in
+      rw (e, q, pow-suc actions (d / 2)))
+      (λ (e : odd d ≡ false).
+      let m = even-delay d e in
+      let q : initialLength d ≡ d / 2 = omega arith in
+      rw (e, q))
+      (bool (odd d))
+
   pub good-is : (ranks : List ℕ) (v : ℕ) → goodIn p g level ranks v ≡ goodWith game d ranks v
   unfolding goodIn goodWith goodFrom words viewOf
   good-is ranks v =
-      good-on-is p g u f level ranks v (odd d)
+      moveless p g u f level (keptBy (onSide p level) ranks) v (odd d)
       ∙ ap
       (λ (keeps : ℕ → Bool). goodBy (odd d) game (actions ^ (d / 2)) keeps v)
       (fun-ext (kept-is p g u f level ranks) ∙ ap (λ E. kept E ranks) (arena-is p g u f start actions d))
@@ -177,5 +193,5 @@ module _ (p : List ℕ) (g : List (List ℕ)) (u f : List ℕ) (start actions d 
   winning-is {ranks} {r} e q =
       q
       ∙ ap (λ (test : ℕ → Bool). anyBelow test (firstWords level)) (fun-ext (good-is ranks))
-      ∙ ap (anyBelow (goodWith game d ranks)) (words-is p g u f start actions d)
+      ∙ ap (anyBelow (goodWith game d ranks)) words-is
       ∙ ap (λ l. anyBelow (goodWith game d l) (initialWords game d)) e

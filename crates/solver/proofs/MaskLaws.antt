@@ -14,18 +14,20 @@ use lib.ListN.{length, set}
 use borrow.Author.Needs.{needs}
 use borrow.Author.Tests.{not-true, not-false}
 use Rattle.theory.specs.Fold.{both, tabulate}
-use Rattle.theory.specs.Rounds.{Arena, spoiltBy, maskBelow, maskAt, masksBy}
+use Rattle.theory.specs.Rounds.{Arena, spoiltBy, maskBelow, maskAt, masksBy, keptBy}
 use Rattle.theory.proofs.Masks.{mask-lt}
 use Rattle.walk.specs.declared.level.Level.{Level}
-use Rattle.walk.specs.View.{viewOf, levelArena, arenaOf}
-use Rattle.walk.specs.Nodes.{Sized, isNode}
-use Rattle.walk.specs.Walks.{fallenBy}
+use Rattle.walk.specs.code.Levels.{arenaOf}
+use Rattle.sheet.specs.code.Arrays.{viewOf}
+use Rattle.walk.specs.code.Nodes.{Sized, isNode}
+use Rattle.walk.specs.code.Walks.{fallenBy}
 use Rattle.walk.proofs.NodeLaws.{at-action}
-use Rattle.rounds.specs.Falling.{AtMost}
-use Rattle.rounds.proofs.Filling.{filled, filled-none, filled-more, filled-done}
+use Rattle.rounds.specs.code.Falling.{AtMost}
+use Rattle.theory.proofs.Filling.{filled, filled-none, filled-more, filled-done}
 use Rattle.rounds.proofs.RoundLaws.{fallen-all}
-use Rattle.solver.specs.Kept.{keptIn, allowedIn}
+use Rattle.solver.specs.code.Kept.{onSide, allowedIn}
 use Rattle.solver.proofs.GoodLaws.{kept-is}
+use Rattle.sheet.specs.Limits.{mostActions}
 
 pub bit-first : 1 ≡ 2 ^ 0
 bit-first = refl
@@ -33,10 +35,10 @@ bit-first = refl
 pub bit-next : (c : ℕ) {b : ℕ} → b ≡ 2 ^ c → b * 2 ≡ 2 ^ (c + 1)
 bit-next c {b} e = rw (add-one c, pow-suc 2 c, e)
 
-pub bit-small : (c : ℕ) {b : ℕ} → b ≡ 2 ^ c → c ≤ 8 → b ≤ 256
+pub bit-small : (c : ℕ) {b : ℕ} → b ≡ 2 ^ c → c ≤ mostActions → b ≤ 2 ^ mostActions
 bit-small c e h = rw e (pow-mono h)
 
-pub bit-fits : (c a : ℕ) {b : ℕ} → b ≡ 2 ^ c → c < a → a ≤ 8 → Fits w64 (b * 2)
+pub bit-fits : (c a : ℕ) {b : ℕ} → b ≡ 2 ^ c → c < a → a ≤ mostActions → Fits w64 (b * 2)
 bit-fits c a q h l = let r = bit-small c q (omega arith) in record { fits = omega arith }
 
 -- the bits of the first c actions
@@ -52,21 +54,21 @@ module _ (E : Arena) (n : ℕ) (ranks : List ℕ) (k : ℕ) where
   unfolding allowedBelow maskBelow
   bits-suc c = rw (add-one c)
 
-  pub bits-small : (c : ℕ) {m : ℕ} → m ≡ allowedBelow E n ranks k c → c ≤ 8 → m < 256
+  pub bits-small : (c : ℕ) {m : ℕ} → m ≡ allowedBelow E n ranks k c → c ≤ mostActions → m < 2 ^ mostActions
   unfolding allowedBelow
   bits-small c {m} e h =
-      let p : 2 ^ c ≤ 256 = pow-mono h in
+      let p : 2 ^ c ≤ 2 ^ mostActions = pow-mono h in
       omega (arith, mask-lt (λ a. not (spoiltBy E (fallenBy n ranks) k a)) c)
 
   -- sums and the byte fit
 
-  pub add-fits : (c a : ℕ) {m b : ℕ} → m ≡ allowedBelow E n ranks k c → b ≡ 2 ^ c → c < a → a ≤ 8 → Fits w64 (m + b)
+  pub add-fits : (c a : ℕ) {m b : ℕ} → m ≡ allowedBelow E n ranks k c → b ≡ 2 ^ c → c < a → a ≤ mostActions → Fits w64 (m + b)
   add-fits c a {m} {b} e q h l =
       let p = bits-small c e (omega arith) in
       let r = bit-small c q (omega arith) in
       record { fits = omega arith }
 
-  pub mask-fits : (c a : ℕ) {m : ℕ} → m ≡ allowedBelow E n ranks k c → c ≤ a → a ≤ 8 → Fits w8 m
+  pub mask-fits : (c a : ℕ) {m : ℕ} → m ≡ allowedBelow E n ranks k c → c ≤ a → a ≤ mostActions → Fits w8 m
   mask-fits c a e h l = let p = bits-small c e (omega arith) in record { fits = omega arith }
 
 module _ (p : List ℕ) (g : List (List ℕ)) (u f : List ℕ) (l : Level) (n : ℕ) (ranks : List ℕ) (k : ℕ) where
@@ -91,14 +93,14 @@ module _ (p : List ℕ) (g : List (List ℕ)) (u f : List ℕ) (l : Level) (n : 
       i ∙ sym (bits-suc here n ranks k c ∙ rw (← at-action (length p) l k c z h a f, x, ← e, o))
 
   pub bits-done : (c : ℕ) {m : ℕ} → c ≤ l .actions → l .actions ≤ c → m ≡ allowedBelow here n ranks k c → m ≡ allowedIn here n ranks k
-  unfolding allowedBelow allowedIn arenaOf levelArena viewOf
+  unfolding allowedBelow allowedIn arenaOf viewOf
   bits-done c {m} h j e = let q : c ≡ l .actions = omega arith in rw q at e
 
-  pub mask-lost : {r : Bool} → r ≡ keptIn p l ranks k → not r ≡ true → 0 ≡ maskAt here ranks k
+  pub mask-lost : {r : Bool} → r ≡ keptBy (onSide p l) ranks k → not r ≡ true → 0 ≡ maskAt here ranks k
   unfolding maskAt
   mask-lost {r} e x = rw (← kept-is p g u f l ranks k, ← e, not-true r x)
 
-  pub mask-stands : {r : Bool} {m : ℕ} → r ≡ keptIn p l ranks k → not r ≡ false → AtMost n ranks → m ≡ allowedIn here n ranks k
+  pub mask-stands : {r : Bool} {m : ℕ} → r ≡ keptBy (onSide p l) ranks k → not r ≡ false → AtMost n ranks → m ≡ allowedIn here n ranks k
       → m ≡ maskAt here ranks k
   unfolding maskAt allowedIn
   mask-stands {r} {m} e x most q =
@@ -125,7 +127,7 @@ module _ (p : List ℕ) (g : List (List ℕ)) (u f : List ℕ) (l : Level) (rank
 
   pub masks-done : (k : ℕ) {m : List ℕ} → Sized (length p) l → m ≡ filled entry k before → length before ≡ l .nodes → k ≤ l .nodes → l .nodes ≤ k
       → m ≡ masksBy (arenaOf p g u f l) ranks
-  unfolding masksBy arenaOf levelArena viewOf
+  unfolding masksBy arenaOf viewOf
   masks-done k s e n h j = filled-done entry before k (l .nodes) e n h j ∙ ap (tabulate entry 0) (s .all-nodes)
 
 pub ruleset all-masks = (needs, masks-start, masks-again, masks-done)

@@ -18,16 +18,19 @@ use Rattle.theory.proofs.Rounds.{final-length}
 use Rattle.theory.proofs.Monotone.{answer-wins, answer-found}
 use Rattle.sheet.specs.Checks.{nodesOf}
 use Rattle.walk.specs.declared.level.Level.{Level}
-use Rattle.walk.specs.View.{viewOf, arenaOf}
-use Rattle.walk.specs.Nodes.{Sized}
-use Rattle.rounds.specs.Falling.{AtMost, isFitted, Ranked}
+use Rattle.walk.specs.code.Levels.{arenaOf}
+use Rattle.sheet.specs.code.Arrays.{viewOf}
+use Rattle.walk.specs.code.Nodes.{Sized}
+use Rattle.rounds.specs.code.Falling.{AtMost, RanksLeft}
 use Rattle.rounds.proofs.RankedLaws.{ranked-ranks, ranked-number}
-use Rattle.solver.specs.Levels.{Room, levelAt}
-use Rattle.solver.specs.Kept.{goodIn, firstWords}
-use Rattle.solver.specs.Solving.{solvedDelay, verdictBy, Stopped}
+use Rattle.walk.specs.code.Levels.{Room, levelAt, levelTo}
+use Rattle.solver.specs.code.Kept.{goodIn, firstWords}
+use Rattle.solver.specs.Solving.{solvedDelay}
+use Rattle.solver.specs.code.Search.{verdictBy, Stopped}
 use Rattle.theory.specs.Buffer.{over}
-use Rattle.solver.proofs.LevelLaws.{nodes-less, room-less, level-sized, arena-is, nodes-is}
+use Rattle.walk.proofs.LevelLaws.{level-whole, nodes-less, room-less, level-sized, arena-is, nodes-is}
 use Rattle.solver.proofs.GoodLaws.{winning-is}
+use Rattle.sheet.specs.Limits.{mostPositions}
 
 -- every delay below d wins, and nothing beyond the nodes of delay d has changed
 pub record Searched (G : Game) (nodes delay d : ℕ) (before ranks : List ℕ) : Type 0 where
@@ -59,23 +62,29 @@ module _ (p : List ℕ) (g : List (List ℕ)) (u f : List ℕ) (start actions de
   next : d ≤ delay → (d ≡ delay → ⊥) → d + 1 ≤ delay
   next a e = omega arith
 
-  pub level-here : {l : Level} → l ≡ levelAt (length p) start actions d → Sized (length p) l
-  level-here is = rw is (level-sized room-here start)
+  whole : {l : Level} → l ≡ levelTo (length p) start actions d → l ≡ levelAt (length p) start actions d
+  whole made = made ∙ level-whole room-here start
 
-  pub start-here : {l : Level} → l ≡ levelAt (length p) start actions d → start < 256 → l .start < 65536
-  start-here is h = rw is (omega arith)
+  pub level-here : {l : Level} → l ≡ levelTo (length p) start actions d → Sized (length p) l
+  level-here made = rw (whole made) (level-sized room-here start)
 
-  pub fits-here : {l : Level} → l ≡ levelAt (length p) start actions d → l .nodes ≤ length old
-  fits-here is = rw is fit
+  pub start-here : {l : Level} → l ≡ levelTo (length p) start actions d → start < 256 → l .start < mostPositions
+  start-here made h = rw made (omega arith)
 
-  pub front-length : {l : Level} → l ≡ levelAt (length p) start actions d → length (take (l .nodes) old) ≡ l .nodes
-  front-length {l} is = length-take-le (l .nodes) old (fits-here is)
+  pub fits-here : {l : Level} → l ≡ levelTo (length p) start actions d → l .nodes ≤ length old
+  fits-here made = rw (whole made) fit
+
+  pub front-length : {l : Level} → l ≡ levelTo (length p) start actions d → length (take (l .nodes) old) ≡ l .nodes
+  front-length {l} made = length-take-le (l .nodes) old (fits-here made)
 
   -- the rounds gave these ranks at this level
-  module _ (l : Level) (is : l ≡ levelAt (length p) start actions d) (ranks : List ℕ) (n : ℕ)
-      (ranked : Ranked (isFitted (length p) l (length (take (l .nodes) old))) (arenaOf p g u f l) (take (l .nodes) old) ranks n) where
+  module _ (l : Level) (made : l ≡ levelTo (length p) start actions d) (ranks : List ℕ) (n : ℕ)
+      (ranked : RanksLeft p g u f l (take (l .nodes) old) ranks n) where
+    is : l ≡ levelAt (length p) start actions d
+    is = whole made
+
     final : ranks ≡ finalRanks (arenaOf p g u f l)
-    final = ranked-ranks (length p) l _ _ _ ranks n (level-here is) (front-length is) ranked
+    final = ranked-ranks (length p) l _ _ _ ranks n (level-here made) (front-length made) ranked
 
     ranks-here : ranks ≡ finalRanks (arena G d)
     ranks-here = final ∙ ap (λ x. finalRanks (arenaOf p g u f x)) is ∙ ap finalRanks (arena-is p g u f start actions d)
@@ -118,7 +127,7 @@ module _ (p : List ℕ) (g : List (List ℕ)) (u f : List ℕ) (start actions de
 
     most-here : AtMost n (finalRanks (arena G d))
     most-here =
-        rw (← ranks-here) (ranked-number (length p) l _ _ _ ranks n (level-here is) (front-length is) ranked)
+        rw (← ranks-here) (ranked-number (length p) l _ _ _ ranks n (level-here made) (front-length made) ranked)
 
     module _ {r : Bool} (some : r ≡ anyBelow (goodIn p g l (take (l .nodes) after)) (firstWords l)) where
       tested : r ≡ winning G d

@@ -25,7 +25,8 @@ use Rattle.sheet.specs.Checks.{nodesOf}
 use Rattle.sheet.specs.Refusals.{numberOf}
 use Rattle.sheet.specs.Reading.{readAnswer, delayOf, refusalNumber, positionsBody}
 use Rattle.sheet.specs.Reading as reading
-use Rattle.sheet.specs.SheetGame.{gameOf, gridOf}
+use Rattle.sheet.specs.SheetGame.{gameOf}
+use Rattle.sheet.specs.code.Arrays.{gridOf, viewOf, firstsOf, bodiesGame}
 use Rattle.sheet.specs.declared.refusal.Refusal.{Refusal}
 use Rattle.sheet.specs.declared.refusal.Refusal.the-variants.{Buffers}
 use Rattle.sheet.specs.declared.reading.Layout.{Layout}
@@ -34,15 +35,16 @@ use Rattle.sheet.specs.declared.reading.Reading.the-variants.{Accepted, Refused
 use Rattle.sheet.proofs.Accepted.{read-is, ranges, carries, arena-nodes}
 use Rattle.sheet.proofs.Legality.{legal-game}
 use Rattle.walk.specs.declared.level.Level.{Level}
-use Rattle.walk.specs.View.{viewOf, arenaOf}
-use Rattle.walk.specs.Nodes.{Sized}
-use Rattle.rounds.specs.Falling.{AtMost}
+use Rattle.walk.specs.code.Levels.{arenaOf}
+use Rattle.walk.specs.code.Nodes.{Sized}
+use Rattle.rounds.specs.code.Falling.{AtMost}
 use Rattle.solver.specs.declared.delays.Stop.{Stop}
-use Rattle.solver.specs.Levels.{firstsOf, Room, levelAt}
-use Rattle.solver.specs.Solving.{solveAnswer, solvedDelay, masksLeft, ranksLeft, verdictBy, Stopped, bodiesGame, Fillable, Filled}
+use Rattle.walk.specs.code.Levels.{Room, levelAt, levelTo}
+use Rattle.solver.specs.Solving.{solveAnswer, solvedDelay, masksLeft, ranksLeft}
+use Rattle.solver.specs.code.Search.{verdictBy, Stopped, Fillable, Filled}
 use Rattle.theory.specs.Buffer.{over}
-use Rattle.solver.proofs.LevelLaws.{nodes-less, room-less, level-sized, arena-is, nodes-is}
-use Rattle.solver.proofs.Bodies.{bodies-game}
+use Rattle.walk.proofs.LevelLaws.{level-whole, nodes-less, room-less, level-sized, arena-is, nodes-is}
+use Rattle.sheet.proofs.Bodies.{bodies-game}
 
 pub length-over : (entries buffer : List ℕ) → length entries ≤ length buffer → length (over entries buffer) ≡ length buffer
 unfolding over
@@ -89,7 +91,10 @@ module _ (p c u : List ℕ) (start actions delay : ℕ) (before-masks before : L
         let i = few in
         rw (stopped .ranks) (length-over (finalRanks (arena G (r .delay))) before (omega arith))
 
-    module _ (l : Level) (is : l ≡ levelAt (length p) start actions (r .delay)) where
+    module _ (l : Level) (made : l ≡ levelTo (length p) start actions (r .delay)) where
+      is : l ≡ levelAt (length p) start actions (r .delay)
+      is = made ∙ level-whole room-stop start
+
       level-nodes : l .nodes ≡ nodesOf (length p) actions (r .delay)
       level-nodes = ap (λ (x : Level). x .nodes) is
 
@@ -115,18 +120,18 @@ module _ (p c u : List ℕ) (start actions delay : ℕ) (before-masks before : L
       pub most-stop : AtMost (r .rounds) (take (l .nodes) after)
       most-stop = rw ranks-front (stopped .rounds)
 
-      made : {m : List ℕ} → m ≡ masksBy (arenaOf p g u f l) (take (l .nodes) after) → m ≡ masks (arena G (r .delay))
+      masks-made : {m : List ℕ} → m ≡ masksBy (arenaOf p g u f l) (take (l .nodes) after) → m ≡ masks (arena G (r .delay))
       unfolding masks
-      made e =
+      masks-made e =
           e
           ∙ ap (masksBy (arenaOf p g u f l)) ranks-front
           ∙ ap
           (λ E. masksBy E (finalRanks (arena G (r .delay))))
           (ap (arenaOf p g u f) is ∙ arena-is p g u f start actions (r .delay))
 
-      made-length : {m : List ℕ} → m ≡ masksBy (arenaOf p g u f l) (take (l .nodes) after) → length m ≡ l .nodes
-      made-length e =
-          ap length (made e)
+      masks-made-length : {m : List ℕ} → m ≡ masksBy (arenaOf p g u f l) (take (l .nodes) after) → length m ≡ l .nodes
+      masks-made-length e =
+          ap length (masks-made e)
           ∙ length-masks (arena G (r .delay))
           ∙ nodes-is p g u f start actions (r .delay)
           ∙ sym level-nodes
@@ -134,7 +139,7 @@ module _ (p c u : List ℕ) (start actions delay : ℕ) (before-masks before : L
       pub masks-length : {m : List ℕ} → m ≡ masksBy (arenaOf p g u f l) (take (l .nodes) after)
           → length (m ++ drop (l .nodes) before-masks) ≡ length before-masks
       masks-length {m} e =
-          let n = made-length e in
+          let n = masks-made-length e in
           let h = masks-room in
           rw (length-append m (drop (l .nodes) before-masks), length-drop (l .nodes) before-masks) (omega arith)
 
@@ -146,8 +151,8 @@ module _ (p c u : List ℕ) (start actions delay : ℕ) (before-masks before : L
           (record {
             stopped = stopped;
             masks =
-                ap (λ x. m ++ drop x before-masks) (sym (made-length e))
-                ∙ ap (λ (x : List ℕ). x ++ drop (length x) before-masks) (made e);
+                ap (λ x. m ++ drop x before-masks) (sym (masks-made-length e))
+                ∙ ap (λ (x : List ℕ). x ++ drop (length x) before-masks) (masks-made e);
           })
 
 pub ruleset filling =
@@ -199,11 +204,14 @@ module _ (s : List ℕ) (rd : Reading) (e : reading.readingMeans rd ≡ readAnsw
         let x = carries s l answered in
         rw (positions-is, ec, eu, x .targets-part, x .moves-part, x .start, x .actions) (bodies-game s (read-is s l answered .0))
 
-    module _ (v : Level) (is : v ≡ levelAt (length p) (l .start) (l .actions) (l .delay)) where
+    module _ (v : Level) (made : v ≡ levelTo (length p) (l .start) (l .actions) (l .delay)) where
+      pub is-level : v ≡ levelAt (length p) (l .start) (l .actions) (l .delay)
+      is-level = made ∙ level-whole room-read (l .start)
+
       nodes-read : v .nodes ≡ arena (gameOf s) (delayOf s) .nodes
       nodes-read =
           let c = carries s l answered in
-          ap (λ (x : Level). x .nodes) is
+          ap (λ (x : Level). x .nodes) is-level
           ∙ rw (positions-is, c .actions, c .delay) (sym (arena-nodes s (delayOf s)))
 
       abbrev owed : ℕ
@@ -255,10 +263,9 @@ module _ (s : List ℕ) (rd : Reading) (e : reading.readingMeans rd ≡ readAnsw
 
         pub fillable-read : Fillable p c u (l .start) (l .actions) (l .delay) m k
         fillable-read =
-            let n = ap (λ (x : Level). x .nodes) is in
+            let n = ap (λ (x : Level). x .nodes) is-level in
             record {
               room = room-read;
-              few-moves = rw (eu, carries s l answered .moves-part) (ranges s (read-is s l answered .0) .few-moves);
               legal = rw (game-read c u ec eu) (legal-game s l answered);
               masks-room = omega arith;
               ranks-room = omega arith;

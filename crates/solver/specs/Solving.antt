@@ -1,28 +1,19 @@
 -- Solving a game sheet: document 01's answer to every list of bytes and every pair of buffers, and what the buffers hold after
 -- it. Assumes nothing.
-use Prim.Native.Nat.{ℕ, _/_, _≤_}
-use mathlib.Core.Path.{_≡_}
-use mathlib.Core.Bool.{Bool, true, false}
+use Prim.Native.Nat.{ℕ}
 use mathlib.Core.List.{List}
 use lib.Dec.{leb}
 use lib.ListN.{length}
 use Rattle.theory.specs.Fold.{both}
+use Rattle.theory.specs.Buffer.{over}
 use Rattle.theory.specs.Answer.{Answer, refused, accepted, check, onAccepted}
-use Rattle.theory.specs.Game.{Game, Legal}
 use Rattle.theory.specs.Rounds.{masks, finalRanks}
 use Rattle.theory.specs.Delay.{Verdict, wins, losing, arena, answer}
 use Rattle.sheet.specs.Reading.{readAnswer, delayOf}
-use Rattle.sheet.specs.Limits.{mostMoves}
-use Rattle.sheet.specs.Checks.{nodesOf}
-use Rattle.sheet.specs.SheetGame.{gameOf, gridOf}
+use Rattle.sheet.specs.SheetGame.{gameOf}
 use Rattle.sheet.specs.declared.reading.Layout.{Layout}
-use Rattle.walk.specs.View.{viewOf}
-use Rattle.rounds.specs.Falling.{AtMost}
-use Rattle.solver.specs.Levels.{firstsOf, Room}
-use Rattle.solver.specs.declared.delays.Stop.{Stop}
 use Rattle.solver.specs.declared.solve.Solution.{Solution}
 use Rattle.solver.specs.declared.solve.Solution.the-variants.{Winning, Losing, Refused}
-use Rattle.theory.specs.Buffer.{over}
 
 -- "winning", or "losing m", with what the accepted reading carried
 pub record Solved : Type 0 where
@@ -68,31 +59,3 @@ abbrev pub solutionMeans : Solution → Answer Solved
 solutionMeans (Winning l) = accepted (record { verdict = wins; layout = l })
 solutionMeans (Losing m l) = accepted (record { verdict = losing m; layout = l })
 solutionMeans (Refused n) = refused n
-
-unfoldable pub verdictBy : Bool → ℕ → Verdict
-verdictBy true m = wins
-verdictBy false m = losing m
-
--- where the search upward stopped, and the ranks that it left
-pub record Stopped (G : Game) (d : ℕ) (before after : List ℕ) (r : Stop) : Type 0 where
-  pub verdict : verdictBy (r .wins) (r .delay) ≡ answer G d
-  pub delay : r .delay ≡ solvedDelay d (answer G d)
-  pub ranks : after ≡ over (finalRanks (arena G (r .delay))) before
-  pub rounds : AtMost (r .rounds) (finalRanks (arena G (r .delay)))
-
--- the game of the arrays that the bodies of a sheet fill
-unfoldable pub bodiesGame : List ℕ → List ℕ → List ℕ → ℕ → ℕ → Game
-bodiesGame p c u start actions = viewOf p (gridOf c) u (firstsOf u) start actions
-
--- bodies that the solver takes, and buffers with room for them
-pub record Fillable (p c u : List ℕ) (start actions delay : ℕ) (masks ranks : List ℕ) : Type 0 where
-  pub room : Room (length p) actions delay
-  pub few-moves : length u / 2 ≤ mostMoves
-  pub legal : Legal (bodiesGame p c u start actions)
-  pub masks-room : nodesOf (length p) actions delay ≤ length masks
-  pub ranks-room : nodesOf (length p) actions delay ≤ length ranks
-
--- the answer, and both buffers filled for the delay where the search stopped
-pub record Filled (G : Game) (d : ℕ) (masksBefore ranksBefore masksLeft ranksAfter : List ℕ) (r : Stop) : Type 0 where
-  pub stopped : Stopped G d ranksBefore ranksAfter r
-  pub masks : masksLeft ≡ over (masks (arena G (r .delay))) masksBefore

@@ -1,6 +1,4 @@
 // Solving: document 01's table and answer at every delay, from a game sheet's bytes (refusals 1 to 8).
-pub mod level; // the numbers of one delay
-pub mod moves; // the first line of every position's moves
 pub mod masks; // what the nodes allow
 pub mod words; // good first words
 pub mod delays; // from delay 0 upward

@@ -1,29 +1,34 @@
 // The masks: what each node allows once the ranks stand.
 use crate::words::kept;
+use sheet::limits::INDEX;
+use sheet::limits::ROW;
+use sheet::limits::ROWS;
 use walk::level::Level;
 use walk::walk::spoilt;
 ghost use mathlib.Core.Path.{_≡_};
 ghost use Prim.Native.Nat.{_<_};
 ghost use lib.ListN.{length};
 ghost use Rattle.theory.specs.Rounds.{maskAt, masksBy};
-ghost use Rattle.walk.specs.View.{arenaOf};
-ghost use Rattle.walk.specs.Nodes.{Sized};
-ghost use Rattle.rounds.specs.Falling.{AtMost};
-ghost use Rattle.solver.specs.Kept.{allowedIn};
+ghost use Rattle.walk.specs.code.Levels.{arenaOf};
+ghost use Rattle.walk.specs.code.Nodes.{Sized};
+ghost use Rattle.rounds.specs.code.Falling.{AtMost};
+ghost use Rattle.solver.specs.code.Kept.{allowedIn};
 
 // The bits of the actions that are not spoilt at node k, which is kept.
 fn allowed(
     p: &[u8],
-    grid: &[[u16; 8]; 256],
+    grid: &[[u16; ROW]; ROWS],
     u: &[u8],
-    firsts: &[u16; 257],
+    firsts: &[u16; INDEX],
     level: Level,
     ranks: &[u16],
     n: u16,
     k: usize,
 ) -> u8
     requires { ⌜ (Sized (length (now p)) level) × (k < level .nodes) ⌝ }
-    ensures { λ r. ⌜ r ≡ allowedIn (arenaOf (now (p .entry)) (now (grid .entry)) (now (u .entry)) (now (firsts .entry)) level) n (now (ranks .entry)) k ⌝ }
+    ensures { λ r.
+        ⌜ r
+        ≡ allowedIn (arenaOf (now (p .entry)) (now (grid .entry)) (now (u .entry)) (now (firsts .entry)) level) n (now (ranks .entry)) k ⌝ }
 {
     let mut mask: usize = 0;
     let mut bit: usize = 1;
@@ -40,16 +45,17 @@ fn allowed(
 
 fn mask_of(
     p: &[u8],
-    grid: &[[u16; 8]; 256],
+    grid: &[[u16; ROW]; ROWS],
     u: &[u8],
-    firsts: &[u16; 257],
+    firsts: &[u16; INDEX],
     level: Level,
     ranks: &[u16],
     n: u16,
     k: usize,
 ) -> u8
     requires { ⌜ (Sized (length (now p)) level) × (k < level .nodes) × (AtMost n (now ranks)) ⌝ }
-    ensures { λ r. ⌜ r ≡ maskAt (arenaOf (now (p .entry)) (now (grid .entry)) (now (u .entry)) (now (firsts .entry)) level) (now (ranks .entry)) k ⌝ }
+    ensures { λ r.
+        ⌜ r ≡ maskAt (arenaOf (now (p .entry)) (now (grid .entry)) (now (u .entry)) (now (firsts .entry)) level) (now (ranks .entry)) k ⌝ }
 {
     if !kept(p, level, ranks, k) {
         return 0;
@@ -60,16 +66,18 @@ fn mask_of(
 // Fills the masks. No rank is over n.
 pub(crate) fn fill_masks(
     p: &[u8],
-    grid: &[[u16; 8]; 256],
+    grid: &[[u16; ROW]; ROWS],
     u: &[u8],
-    firsts: &[u16; 257],
+    firsts: &[u16; INDEX],
     level: Level,
     ranks: &[u16],
     n: u16,
     masks: &mut [u8],
 )
     requires { ⌜ (Sized (length (now p)) level) × (AtMost n (now ranks)) × (length (now masks) ≡ level .nodes) ⌝ }
-    ensures { λ r. ⌜ now (masks .exit) ≡ masksBy (arenaOf (now (p .entry)) (now (grid .entry)) (now (u .entry)) (now (firsts .entry)) level) (now (ranks .entry)) ⌝ }
+    ensures { λ r.
+        ⌜ now (masks .exit)
+        ≡ masksBy (arenaOf (now (p .entry)) (now (grid .entry)) (now (u .entry)) (now (firsts .entry)) level) (now (ranks .entry)) ⌝ }
 {
     let mut k: usize = 0;
     while k < level.nodes {

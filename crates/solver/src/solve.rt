@@ -1,19 +1,21 @@
 // Solving a game sheet: refusals 1 to 8, the answer, and the masks and ranks in the lent buffers.
 use crate::delays::Stop;
 use crate::delays::search;
-use crate::level::level_at;
 use crate::masks::fill_masks;
-use crate::moves::first_lines;
 use sheet::form::part;
 use sheet::grid::grid_of;
+use sheet::moves::first_lines;
 use sheet::reading::Layout;
 use sheet::reading::Reading;
 use sheet::reading::read;
 use sheet::reading::refusal_number;
 use sheet::refusal::Refusal;
 use sheet::refusal::number;
+use walk::level::level_at;
 ghost use mathlib.Core.Path.{_≡_};
-ghost use Rattle.solver.specs.Solving.{bodiesGame, Fillable, Filled, solutionMeans, solving, masksSolved, ranksSolved};
+ghost use Rattle.solver.specs.Solving.{solutionMeans, solving, masksSolved, ranksSolved};
+ghost use Rattle.solver.specs.code.Search.{Fillable, Filled};
+ghost use Rattle.sheet.specs.code.Arrays.{bodiesGame};
 
 // Losing: the least delay at which no strategy wins.
 pub enum Solution {
@@ -34,7 +36,9 @@ fn fill(
     ranks: &mut [u16],
 ) -> Stop
     requires { ⌜ Fillable (now p) (now c) (now u) start actions delay (now masks) (now ranks) ⌝ }
-    ensures { λ r. ⌜ Filled (bodiesGame (now (p .entry)) (now (c .entry)) (now (u .entry)) start actions) delay (now (masks .entry)) (now (ranks .entry)) (now (masks .exit)) (now (ranks .exit)) r ⌝ }
+    ensures { λ r.
+        ⌜ Filled (bodiesGame (now (p .entry)) (now (c .entry)) (now (u .entry)) start actions) delay
+        (now (masks .entry)) (now (ranks .entry)) (now (masks .exit)) (now (ranks .exit)) r ⌝ }
 {
     let grid = grid_of(c);
     let firsts = first_lines(u);

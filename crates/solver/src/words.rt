@@ -1,25 +1,31 @@
 // Good first words, once the ranks stand.
-use crate::level::level_at;
-use rounds::rounds::on_right;
 use sheet::form::part;
+use sheet::form::wide16;
 use sheet::grid::grid_of;
+use sheet::grid::target;
+use sheet::kinds::on_right;
 use sheet::kinds::safe_at;
+use sheet::limits::ABSENT;
+use sheet::limits::ROW;
+use sheet::limits::ROWS;
 use sheet::reading::Reading;
 use sheet::reading::read;
 use walk::level::Level;
-use walk::walk::ABSENT;
-use walk::walk::target;
+use walk::level::level_at;
 ghost use mathlib.Core.Path.{_≡_};
-ghost use Prim.Native.Nat.{_<_};
+ghost use Prim.Native.Nat.{_≤_, _<_};
 ghost use lib.ListN.{length};
 ghost use Rattle.theory.specs.Fold.{anyBelow, tabulate};
-ghost use Rattle.walk.specs.Nodes.{Sized};
-ghost use Rattle.solver.specs.Kept.{keptIn, goodIn, firstWords};
-ghost use Rattle.solver.specs.Flags.{flagIn, flagsCount, flagsAfter};
+ghost use Rattle.walk.specs.code.Nodes.{Sized};
+ghost use Rattle.theory.specs.Rounds.{keptBy};
+ghost use Rattle.theory.specs.Delay.{flagBy};
+ghost use Rattle.sheet.specs.Limits.{mostPositions, mostActions, mostNodes};
+ghost use Rattle.solver.specs.code.Kept.{onSide, goodIn, firstWords};
+ghost use Rattle.solver.specs.code.Flags.{flagsCount, flagsAfter};
 
 pub(crate) fn kept(p: &[u8], level: Level, ranks: &[u16], k: usize) -> bool
     requires { ⌜ Sized (length (now p)) level ⌝ }
-    ensures { λ r. ⌜ r ≡ keptIn (now (p .entry)) level (now (ranks .entry)) k ⌝ }
+    ensures { λ r. ⌜ r ≡ keptBy (onSide (now (p .entry)) level) (now (ranks .entry)) k ⌝ }
 {
     if !on_right(p, level.odd, k / level.words) {
         return false;
@@ -31,7 +37,7 @@ pub(crate) fn kept(p: &[u8], level: Level, ranks: &[u16], k: usize) -> bool
 }
 
 pub(crate) fn first_words(level: Level) -> usize
-    requires { ⌜ (level .words < 65536) × (level .actions < 256) ⌝ }
+    requires { ⌜ (level .words ≤ mostNodes) × (level .actions ≤ mostActions) ⌝ }
     ensures { λ r. ⌜ r ≡ firstWords level ⌝ }
 {
     if level.odd {
@@ -40,8 +46,14 @@ pub(crate) fn first_words(level: Level) -> usize
     level.words
 }
 
-pub(crate) fn good(p: &[u8], grid: &[[u16; 8]; 256], level: Level, ranks: &[u16], v: usize) -> bool
-    requires { ⌜ (Sized (length (now p)) level) × (level .start < 65536) × (v < firstWords level) ⌝ }
+pub(crate) fn good(
+    p: &[u8],
+    grid: &[[u16; ROW]; ROWS],
+    level: Level,
+    ranks: &[u16],
+    v: usize,
+) -> bool
+    requires { ⌜ (Sized (length (now p)) level) × (level .start < mostPositions) × (v < firstWords level) ⌝ }
     ensures { λ r. ⌜ r ≡ goodIn (now (p .entry)) (now (grid .entry)) level (now (ranks .entry)) v ⌝ }
 {
     if !level.odd {
@@ -54,11 +66,16 @@ pub(crate) fn good(p: &[u8], grid: &[[u16; 8]; 256], level: Level, ranks: &[u16]
     if reached == ABSENT {
         return false;
     }
-    kept(p, level, ranks, reached * level.words + v % level.words)
+    kept(
+        p,
+        level,
+        ranks,
+        wide16(reached) * level.words + v % level.words,
+    )
 }
 
-pub(crate) fn some_good(p: &[u8], grid: &[[u16; 8]; 256], level: Level, ranks: &[u16]) -> bool
-    requires { ⌜ (Sized (length (now p)) level) × (level .start < 65536) ⌝ }
+pub(crate) fn some_good(p: &[u8], grid: &[[u16; ROW]; ROWS], level: Level, ranks: &[u16]) -> bool
+    requires { ⌜ (Sized (length (now p)) level) × (level .start < mostPositions) ⌝ }
     ensures { λ r. ⌜ r ≡ anyBelow (goodIn (now (p .entry)) (now (grid .entry)) level (now (ranks .entry))) (firstWords level) ⌝ }
 {
     let n = first_words(level);
@@ -72,9 +89,9 @@ pub(crate) fn some_good(p: &[u8], grid: &[[u16; 8]; 256], level: Level, ranks: &
     false
 }
 
-fn flag(p: &[u8], grid: &[[u16; 8]; 256], level: Level, ranks: &[u16], v: usize) -> u8
-    requires { ⌜ (Sized (length (now p)) level) × (level .start < 65536) × (v < firstWords level) ⌝ }
-    ensures { λ r. ⌜ r ≡ flagIn (now (p .entry)) (now (grid .entry)) level (now (ranks .entry)) v ⌝ }
+fn flag(p: &[u8], grid: &[[u16; ROW]; ROWS], level: Level, ranks: &[u16], v: usize) -> u8
+    requires { ⌜ (Sized (length (now p)) level) × (level .start < mostPositions) × (v < firstWords level) ⌝ }
+    ensures { λ r. ⌜ r ≡ flagBy (goodIn (now (p .entry)) (now (grid .entry)) level (now (ranks .entry))) v ⌝ }
 {
     if good(p, grid, level, ranks, v) {
         return 1;
@@ -82,9 +99,11 @@ fn flag(p: &[u8], grid: &[[u16; 8]; 256], level: Level, ranks: &[u16], v: usize)
     0
 }
 
-fn fill_flags(p: &[u8], grid: &[[u16; 8]; 256], level: Level, ranks: &[u16], flags: &mut [u8])
-    requires { ⌜ (Sized (length (now p)) level) × (level .start < 65536) × (length (now flags) ≡ firstWords level) ⌝ }
-    ensures { λ r. ⌜ now (flags .exit) ≡ tabulate (flagIn (now (p .entry)) (now (grid .entry)) level (now (ranks .entry))) 0 (firstWords level) ⌝ }
+fn fill_flags(p: &[u8], grid: &[[u16; ROW]; ROWS], level: Level, ranks: &[u16], flags: &mut [u8])
+    requires { ⌜ (Sized (length (now p)) level) × (level .start < mostPositions) × (length (now flags) ≡ firstWords level) ⌝ }
+    ensures { λ r.
+        ⌜ now (flags .exit)
+        ≡ tabulate (flagBy (goodIn (now (p .entry)) (now (grid .entry)) level (now (ranks .entry)))) 0 (firstWords level) ⌝ }
 {
     let n = first_words(level);
     let mut v: usize = 0;

@@ -19,7 +19,8 @@ use Rattle.theory.specs.Table.{Table, flagged}
 use Rattle.theory.proofs.Answer.{check-passed}
 use Rattle.theory.proofs.Fold.{bool, both-false, both-left, both-right, all-none, all-again, all-fails, all-short, any-none, any-holds, any-again, any-done, both-none, both-second, failed, passed}
 use Rattle.sheet.specs.Form.{contentsOk, placedAt, partAt, bodyOf}
-use Rattle.sheet.specs.Checks.{powerTo, nodesOf}
+use Rattle.sheet.specs.Checks.{nodesOf}
+use Rattle.sheet.specs.code.Steps.{powerTo}
 use Rattle.sheet.specs.Refusals.{numberOf}
 use Rattle.sheet.specs.declared.form.Place.{Place}
 use Rattle.sheet.specs.declared.refusal.Refusal.{Refusal}

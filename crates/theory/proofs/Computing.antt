@@ -6,8 +6,9 @@ use Rattle.theory.specs.Buffer.{over}
 use Rattle.theory.specs.Bytes.{bytesOf, numberAt}
 use Rattle.theory.specs.Words.{encode, digit}
 use Rattle.theory.specs.Play.{lastFrom, turns, index, back, actionsOf, lastActions}
-use Rattle.theory.specs.Rounds.{bad, spoiltBy, fell, falls, rankIn, ranksAfter, finalRanks, kept, maskBelow, maskAt, masksBy, masks}
-use Rattle.theory.specs.Delay.{odd, words, initialWords, onRight, withWord, movedTo, playedTo, outcomes, step, arena, keptAt, goodBy, goodFrom, goodWith, winning, flags, answerBy, answer}
+use Rattle.theory.specs.Rounds.{bad, spoiltBy, fell, falls, rankIn, ranksAfter, finalRanks, keptBy, maskBelow, maskAt, masksBy, masks}
+use Rattle.theory.specs.Delay.{odd, words, initialWords, onRight, withWord, movedTo, playedTo, outcomes, step, arena, keptAt, goodBy}
+use Rattle.theory.specs.Delay.{goodFrom, goodWith, winning, flagBy, flags, answerBy, answer}
 use Rattle.theory.specs.Table.{ours, flagged, lacks, has, bit, allows}
 use Rattle.theory.specs.Exact.{leastFlagged, lowestIn, actionAt, arrive, advance, turnBy, playBy, exactChoice, exact, worked}
 
@@ -36,11 +37,11 @@ unfolding lastFrom turns index back actionsOf lastActions
 plays-compute = true
 
 unfoldable pub rounds-compute : Bool
-unfolding bad spoiltBy fell falls rankIn ranksAfter finalRanks kept maskBelow maskAt masksBy masks
+unfolding bad spoiltBy fell falls rankIn ranksAfter finalRanks keptBy maskBelow maskAt masksBy masks
 rounds-compute = true
 
 unfoldable pub delays-compute : Bool
-unfolding odd words initialWords onRight withWord movedTo playedTo outcomes step arena keptAt goodBy goodFrom goodWith winning flags answerBy answer
+unfolding odd words initialWords onRight withWord movedTo playedTo outcomes step arena keptAt goodBy goodFrom goodWith winning flagBy flags answerBy answer
 delays-compute = true
 
 unfoldable pub tables-compute : Bool

@@ -47,7 +47,7 @@ module _ (G : Game) (legal : Legal G) (d : ℕ) (σ : Strategy (G .actions) d) w
 
   pub record Seen (π : Play) : Type 0 where
     pub consistent : Consistent G d σ π
-    pub right : onRight (odd d) G (last G π) ≡ true
+    pub right : onRight (odd d) (G .controller) (last G π) ≡ true
 
   seen-controller : {π : Play} → odd d ≡ false → Seen π → G .controller (last G π) ≡ true
   seen-controller {π} e s = sym (right-even G (odd d) (last G π) e) ∙ s .right
@@ -58,10 +58,10 @@ module _ (G : Game) (legal : Legal G) (d : ℕ) (σ : Strategy (G .actions) d) w
   seen-late : {π : Play} → odd d ≡ true → Seen π → 0 < turns π
   seen-late e s = let i = environment-index legal (consistent-play (s .consistent)) (seen-environment e s) in omega arith
 
-  controller-right : {p : ℕ} → odd d ≡ false → G .controller p ≡ true → onRight (odd d) G p ≡ true
+  controller-right : {p : ℕ} → odd d ≡ false → G .controller p ≡ true → onRight (odd d) (G .controller) p ≡ true
   controller-right {p} e o = right-even G (odd d) p e ∙ o
 
-  environment-right : {p : ℕ} → odd d ≡ true → G .controller p ≡ false → onRight (odd d) G p ≡ true
+  environment-right : {p : ℕ} → odd d ≡ true → G .controller p ≡ false → onRight (odd d) (G .controller) p ≡ true
   environment-right {p} e y = right-odd G (odd d) p e ∙ ap not y
 
   pub seen-node : {π : Play} → Seen π → node G d σ π < arena G d .nodes
@@ -169,7 +169,7 @@ module _ (G : Game) (legal : Legal G) (d : ℕ) (σ : Strategy (G .actions) d) w
   module _ (S : ℕ → Type 0) (keeping : KeepsInside S) (starts : Starts (odd d) G (words G d) S (σ .initial)) where
     -- between two histories of the right side: safe, playable, and every next one is inside
     record Between (π : Play) : Type 0 where
-      wrong : onRight (odd d) G (last G π) ≡ false
+      wrong : onRight (odd d) (G .controller) (last G π) ≡ false
       safe : G .safe (last G π) ≡ true
       permitted : G .controller (last G π) ≡ true → (q : ℕ) × (G .target (last G π) (choice d σ π) ≡ to q)
       next : {π′ : Play} → Next G d σ π π′ → S (node G d σ π′)
@@ -177,10 +177,10 @@ module _ (G : Game) (legal : Legal G) (d : ℕ) (σ : Strategy (G .actions) d) w
     Inside : Play → Type 0
     Inside π = (Seen π × S (node G d σ π)) ⊎ Between π
 
-    controller-wrong : {p : ℕ} → odd d ≡ true → G .controller p ≡ true → onRight (odd d) G p ≡ false
+    controller-wrong : {p : ℕ} → odd d ≡ true → G .controller p ≡ true → onRight (odd d) (G .controller) p ≡ false
     controller-wrong {p} e o = right-odd G (odd d) p e ∙ ap not o
 
-    environment-wrong : {p : ℕ} → odd d ≡ false → G .controller p ≡ false → onRight (odd d) G p ≡ false
+    environment-wrong : {p : ℕ} → odd d ≡ false → G .controller p ≡ false → onRight (odd d) (G .controller) p ≡ false
     environment-wrong {p} e y = right-even G (odd d) p e ∙ y
 
     -- odd delay: the first word's first action is played at the start
@@ -255,7 +255,7 @@ module _ (G : Game) (legal : Legal G) (d : ℕ) (σ : Strategy (G .actions) d) w
         (bool (odd d))
 
     -- a move changes the side
-    next-right : {π π′ : Play} → Next G d σ π π′ → onRight (odd d) G (last G π) ≡ false → onRight (odd d) G (last G π′) ≡ true
+    next-right : {π π′ : Play} → Next G d σ π π′ → onRight (odd d) (G .controller) (last G π) ≡ false → onRight (odd d) (G .controller) (last G π′) ≡ true
     unfolding lastFrom
     next-right (by-action q e) w =
         let t = legal .targets _ _ q e in

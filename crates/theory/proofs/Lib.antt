@@ -2,6 +2,7 @@
 pub mod Fold
 pub mod Answer
 pub mod Buffer
+pub mod Filling
 pub mod Words
 pub mod Masks
 pub mod Rounds

@@ -10,7 +10,7 @@ use lib.ListN.{getD, List·getD-eq-default}
 use Rattle.theory.specs.Game.{Game, Target, to, Legal}
 use Rattle.theory.specs.Strategy.{Strategy, Wins}
 use Rattle.theory.specs.Rounds.{Closed, spoiltBy, fell, finalRanks, kept, masks}
-use Rattle.theory.specs.Delay.{initialWords, arena, goodWith, flags}
+use Rattle.theory.specs.Delay.{initialWords, arena, goodWith, flagBy, flags}
 use Rattle.theory.specs.Table.{Table, ours, flagged, lacks, has, allows, Fits, Judged, Inside, node, Obeys}
 use Rattle.theory.proofs.Fold.{bool, not-both, below?, length-tabulate, getD-tabulate, getD-tabulate-out}
 use Rattle.theory.proofs.Masks.{bit-high, some-bit}
@@ -22,12 +22,12 @@ use Rattle.theory.proofs.Tables.{has-mask, mask-has, has-lacks, allows-
 module _ (G : Game) (d : ℕ) where
   -- the W flags
   flag-is : (v : ℕ) → v < initialWords G d → getD (flags G d) v 0 ≡ cond (goodWith G d (finalRanks (arena G d)) v) 1 0
-  unfolding flags
-  flag-is v h = getD-tabulate (λ v. cond (goodWith G d (finalRanks (arena G d)) v) 1 0) (initialWords G d) v 0 h
+  unfolding flags flagBy
+  flag-is v h = getD-tabulate (flagBy (goodWith G d (finalRanks (arena G d)))) (initialWords G d) v 0 h
 
   flag-out : (v : ℕ) → initialWords G d ≤ v → getD (flags G d) v 0 ≡ 0
   unfolding flags
-  flag-out v h = getD-tabulate-out (λ v. cond (goodWith G d (finalRanks (arena G d)) v) 1 0) (initialWords G d) v 0 h
+  flag-out v h = getD-tabulate-out (flagBy (goodWith G d (finalRanks (arena G d)))) (initialWords G d) v 0 h
 
   pub good-flagged : (v : ℕ) → v < initialWords G d → goodWith G d (finalRanks (arena G d)) v ≡ true → flagged (ours G d) v ≡ true
   unfolding flagged ours

@@ -178,16 +178,16 @@ module _ (G : Game) (d : ℕ) (σ : Strategy (G .actions) d) where
   unfolding node words arena
   node-lt π h = digits-lt h (word-lt d σ π)
 
-  pub node-right : (π : Play) → arena G d .right (node G d σ π) ≡ onRight (odd d) G (last G π)
+  pub node-right : (π : Play) → arena G d .right (node G d σ π) ≡ onRight (odd d) (G .controller) (last G π)
   unfolding arena
-  node-right π = ap (onRight (odd d) G) (node-position π)
+  node-right π = ap (onRight (odd d) (G .controller)) (node-position π)
 
   pub node-safe : (π : Play) → arena G d .safe (node G d σ π) ≡ G .safe (last G π)
   unfolding arena
   node-safe π = ap (G .safe) (node-position π)
 
   step-joined : (π : Play) → d ≤ 2 * (turns π + d / 2)
-      → step G d (node G d σ π) (σ .given π) ≡ outcomes (odd d) G (words G d) (last G π) (encode (G .actions) (pending d σ π) (suc (d / 2)))
+      → step (odd d) G (words G d) (node G d σ π) (σ .given π) ≡ outcomes (odd d) G (words G d) (last G π) (encode (G .actions) (pending d σ π) (suc (d / 2)))
   unfolding step
   step-joined π l =
       ap₂ (λ p w. outcomes (odd d) G (words G d) p (w * G .actions + σ .given π)) (node-position π) (node-word π)

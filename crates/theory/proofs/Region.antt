@@ -10,7 +10,7 @@ use lib.ListN.{length, getD}
 use borrow.Author.Tests.{not-true, not-false}
 use Rattle.theory.specs.Fold.{allBelow, firstNot}
 use Rattle.theory.specs.Game.{Target, to}
-use Rattle.theory.specs.Rounds.{Arena, Closed, spoiltBy, fell, falls, ranksAfter, finalRanks, kept, maskBelow, maskAt, masksBy, masks}
+use Rattle.theory.specs.Rounds.{Arena, Closed, spoiltBy, fell, falls, ranksAfter, finalRanks, keptBy, kept, maskBelow, maskAt, masksBy, masks}
 use Rattle.theory.specs.Table.{bit}
 use Rattle.theory.proofs.Fold.{bool, not-both, both-true, both-left, both-right, all-fails, below?, first, length-tabulate, getD-tabulate, getD-tabulate-out}
 use Rattle.theory.proofs.Rounds.{unspoilt, unspoilt-outcome, fell-false, rank-zero, stands, stood-before, stood-falls, final-quiet}
@@ -18,15 +18,15 @@ use Rattle.theory.proofs.Masks.{mask-bit, mask-high, mask-some, mask-lt
 
 module _ (E : Arena) where
   pub kept-right : (ranks : List ℕ) (k : ℕ) → kept E ranks k ≡ true → E .right k ≡ true
-  unfolding kept
+  unfolding keptBy
   kept-right ranks k e = both-left _ _ e
 
   pub kept-stood : (ranks : List ℕ) (k : ℕ) → kept E ranks k ≡ true → fell ranks k ≡ false
-  unfolding kept
+  unfolding keptBy
   kept-stood ranks k e = not-true _ (both-right (E .right k) _ e)
 
   pub kept-is : (ranks : List ℕ) (k : ℕ) → E .right k ≡ true → fell ranks k ≡ false → kept E ranks k ≡ true
-  unfolding kept
+  unfolding keptBy
   kept-is ranks k r e = both-true _ _ r (rw e)
 
   -- the conditions of rounds 1 and n + 2, by their tests

@@ -64,9 +64,9 @@ module _ (G : Game) (legal : Legal G) (d : ℕ) where
   unfolding arena
   node-number p w h l = digits-lt h l
 
-  node-controller : (p w : ℕ) → w < words G d → arena G d .right (p * words G d + w) ≡ onRight (odd d) G p
+  node-controller : (p w : ℕ) → w < words G d → arena G d .right (p * words G d + w) ≡ onRight (odd d) (G .controller) p
   unfolding arena
-  node-controller p w l = ap (onRight (odd d) G) (digits-div p l)
+  node-controller p w l = ap (onRight (odd d) (G .controller)) (digits-div p l)
 
   -- a step reaches only nodes, of the right side
 
@@ -101,12 +101,12 @@ module _ (G : Game) (legal : Legal G) (d : ℕ) where
   unfolding arena step
   step-legal k c k′ i = reach (odd d) refl i
     where
-      found : (p w : ℕ) → p < G .positions → onRight (odd d) G p ≡ true → w < words G d → k′ ≡ p * words G d + w
-          → (k′ < G .positions * words G d) × (onRight (odd d) G (k′ / words G d) ≡ true)
+      found : (p w : ℕ) → p < G .positions → onRight (odd d) (G .controller) p ≡ true → w < words G d → k′ ≡ p * words G d + w
+          → (k′ < G .positions * words G d) × (onRight (odd d) (G .controller) (k′ / words G d) ≡ true)
       found p w h r l e = rw e (node-number p w h l, node-controller p w l ∙ r)
 
       reach : (b : Bool) → odd d ≡ b → List·Memᴰ (to k′) (outcomes b G (words G d) (k / words G d) ((k % words G d) * G .actions + c))
-          → (k′ < G .positions * words G d) × (onRight (odd d) G (k′ / words G d) ≡ true)
+          → (k′ < G .positions * words G d) × (onRight (odd d) (G .controller) (k′ / words G d) ≡ true)
       reach false e i =
           let (r, h, o, q) = even-reach _ _ k′ i in
           found r _ h (right-even G (odd d) r e ∙ o) (mod-lt _ words-some) q

@@ -17,11 +17,11 @@ use Rattle.theory.proofs.Pending.{odd-delay, even-advance, odd-advance,
 
 -- the side of a history, by the delay's parity
 
-pub right-even : (G : Game) (b : Bool) (p : ℕ) → b ≡ false → onRight b G p ≡ G .controller p
+pub right-even : (G : Game) (b : Bool) (p : ℕ) → b ≡ false → onRight b (G .controller) p ≡ G .controller p
 unfolding onRight
 right-even G b p e = rw e
 
-pub right-odd : (G : Game) (b : Bool) (p : ℕ) → b ≡ true → onRight b G p ≡ not (G .controller p)
+pub right-odd : (G : Game) (b : Bool) (p : ℕ) → b ≡ true → onRight b (G .controller) p ≡ not (G .controller p)
 unfolding onRight
 right-odd G b p e = rw e
 

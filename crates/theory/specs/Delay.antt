@@ -19,10 +19,10 @@ words G d = G .actions ^ (d / 2)
 unfoldable pub initialWords : Game → ℕ → ℕ
 initialWords G d = G .actions ^ initialLength d
 
--- "For even d the position is own, for odd d yard"
-unfoldable pub onRight : Bool → Game → ℕ → Bool
-onRight true G p = not (G .controller p)
-onRight false G p = G .controller p
+-- "For even d the position is own, for odd d yard", by parity (true: odd) and the test for own positions
+unfoldable pub onRight : Bool → (ℕ → Bool) → ℕ → Bool
+onRight true controller p = not (controller p)
+onRight false controller p = controller p
 
 -- a target with a word, as a node
 unfoldable pub withWord : ℕ → ℕ → Target → Target
@@ -43,19 +43,23 @@ unfoldable pub outcomes : Bool → Game → ℕ → ℕ → ℕ → List Target
 outcomes true G m p j = map (movedTo G m (j / m) (j % m)) (G .moves p)
 outcomes false G m p j = playedTo G m (j % m) (G .target p (j / m))
 
--- "The step, choosing c: join c to the word and let h be the oldest"
-unfoldable pub step : Game → ℕ → ℕ → ℕ → List Target
-step G d k c = outcomes (odd d) G (words G d) (k / words G d) ((k % words G d) * G .actions + c)
+-- "The step, choosing c: join c to the word and let h be the oldest", by parity and the number of words
+unfoldable pub step : Bool → Game → ℕ → ℕ → ℕ → List Target
+step odd G m k c = outcomes odd G m (k / m) ((k % m) * G .actions + c)
+
+-- the arena by parity and the number of words, as code has it
+abbrev pub arenaBy : Bool → Game → ℕ → Arena
+arenaBy odd G m =
+    record {
+      nodes = G .positions * m;
+      actions = G .actions;
+      right = λ k. onRight odd (G .controller) (k / m);
+      safe = λ k. G .safe (k / m);
+      step = step odd G m;
+    }
 
 unfoldable pub arena : Game → ℕ → Arena
-arena G d =
-    record {
-      nodes = G .positions * words G d;
-      actions = G .actions;
-      right = λ k. onRight (odd d) G (k / words G d);
-      safe = λ k. G .safe (k / words G d);
-      step = step G d;
-    }
+arena G d = arenaBy (odd d) G (words G d)
 
 unfoldable pub keptAt : (ℕ → Bool) → ℕ → ℕ → Target → Bool
 keptAt keeps m w absent = false
@@ -78,9 +82,13 @@ goodWith G d ranks v = goodFrom G d (kept (arena G d) ranks) v
 unfoldable pub winning : Game → ℕ → Bool
 winning G d = let final = finalRanks (arena G d) in anyBelow (goodWith G d final) (initialWords G d)
 
+-- "1 if good, else 0"
+unfoldable pub flagBy : (ℕ → Bool) → ℕ → ℕ
+flagBy good v = cond (good v) 1 0
+
 -- the W body: "a byte for each first word in base-A order, 1 if good, else 0"
 unfoldable pub flags : Game → ℕ → List ℕ
-flags G d = let final = finalRanks (arena G d) in tabulate (λ v. cond (goodWith G d final v) 1 0) 0 (initialWords G d)
+flags G d = let final = finalRanks (arena G d) in tabulate (flagBy (goodWith G d final)) 0 (initialWords G d)
 
 -- "winning", or "losing m"
 pub data Verdict : Type 0 where

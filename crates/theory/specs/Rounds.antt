@@ -50,8 +50,11 @@ unfoldable pub finalRanks : Arena → List ℕ
 finalRanks E = ranksAfter E (suc (E .nodes))
 
 -- "A pair of the right side that never falls is kept": it is in the winning region
-unfoldable pub kept : Arena → List ℕ → ℕ → Bool
-kept E ranks k = both (E .right k) (not (fell ranks k))
+unfoldable pub keptBy : (ℕ → Bool) → List ℕ → ℕ → Bool
+keptBy right ranks k = both (right k) (not (fell ranks k))
+
+abbrev pub kept : Arena → List ℕ → ℕ → Bool
+kept E = keptBy (E .right)
 
 -- the number with bit c set for each c below n that passes the test
 unfoldable pub maskBelow : (ℕ → Bool) → ℕ → ℕ

@@ -71,4 +71,5 @@ node G d σ π = last G π * words G d + word d σ π
 -- the strategy keeps to the table: its first word is flagged, and each action given on a consistent play is in the node's mask
 pub record Obeys (G : Game) {A : ℕ} (d : ℕ) (σ : Strategy A d) (T : Table) : Type 0 where
   pub first : flagged T (σ .initial) ≡ true
-  pub given : (π : Play) → Consistent G d σ π → onRight (odd d) G (last G π) ≡ true → allows T (node G d σ π) (σ .given π) ≡ true
+  pub given : (π : Play) → Consistent G d σ π → onRight (odd d) (G .controller) (last G π) ≡ true
+      → allows T (node G d σ π) (σ .given π) ≡ true

@@ -1,4 +1,4 @@
--- The tests that a level is small and that a node exists (specs/Nodes.antt). Assumes nothing.
+-- The tests that a level is small and that a node exists (specs/code/Nodes.antt). Assumes nothing.
 use Prim.Native.Nat.{ℕ, _*_, _≤_, _<_}
 use mathlib.Core.Path.{_≡_, sym, _∙_}
 use mathlib.Core.Bool.{Bool, true, false, not}
@@ -9,7 +9,8 @@ use borrow.Author.Tests.{eqb-true, leb-true, ltb-true, eq-eqb, le-leb, lt-ltb, l
 use Rattle.theory.specs.Fold.{both}
 use Rattle.theory.proofs.Fold.{bool, both-true, both-left, both-right, both-none, both-false, both-second, failed, passed}
 use Rattle.walk.specs.declared.level.Level.{Level}
-use Rattle.walk.specs.Nodes.{Sized, isSized, isNode}
+use Rattle.walk.specs.code.Nodes.{Sized, isSized, isNode}
+use Rattle.sheet.specs.Limits.{mostPositions, mostActions, mostNodes}
 
 module _ (positions : ℕ) (l : Level) where
   pub sized-tested : Sized positions l → isSized positions l ≡ true
@@ -46,7 +47,7 @@ module _ (positions : ℕ) (l : Level) where
       (λ (e : isSized positions l ≡ false). sym e)
       (bool (isSized positions l))
 
-  pub sized-product : positions ≤ 256 → l .actions ≤ 8 → 1 ≤ l .words → l .words ≤ 16384 → l .nodes ≤ 16384
+  pub sized-product : positions ≤ mostPositions → l .actions ≤ mostActions → 1 ≤ l .words → l .words ≤ mostNodes → l .nodes ≤ mostNodes
       → eqb (l .nodes) (positions * l .words) ≡ isSized positions l
   unfolding isSized
   sized-product a b c d e =

@@ -15,36 +15,18 @@ use borrow.Author.Needs.{needs}
 use Rattle.theory.specs.Fold.{both, either, allBelow, anyOf}
 use Rattle.theory.specs.Game.{Target, absent, to, Game}
 use Rattle.theory.specs.Rounds.{bad, spoiltBy}
-use Rattle.theory.specs.Delay.{withWord, movedTo, playedTo, outcomes}
-use Rattle.theory.proofs.Fold.{bool, all-none, all-suc, all-done, below?, not-both, all-again, either-left, any-of-nil, any-of-cons, both-true, both-false, both-none, both-second, either-second, all-short, any-of-map, tabulate-none, tabulate-next}
+use Rattle.theory.specs.Delay.{withWord, movedTo, playedTo, outcomes, step}
+use Rattle.theory.proofs.Fold.{bool, all-none, all-suc, all-done, below?, not-both, all-again, either-left, any-of-nil, any-of-cons}
+use Rattle.theory.proofs.Fold.{both-true, both-false, both-none, both-second, either-second, all-short, any-of-map, tabulate-none}
+use Rattle.theory.proofs.Fold.{tabulate-next}
 use Rattle.sheet.specs.Kinds.{kindAt, isSafe, safeAt}
-use Rattle.sheet.specs.SheetGame.{unmark}
+use Rattle.sheet.specs.code.Arrays.{unmark, targetAt, toAt, tosBetween, viewOf, absentMark}
 use Rattle.walk.specs.declared.level.Level.{Level}
 use Rattle.walk.specs.declared.walk.Choice.{Choice}
-use Rattle.walk.specs.View.{cellAt, toAt, tosBetween, viewOf, levelArena, arenaOf}
-use Rattle.walk.specs.Walks.{fallenBy, blockedAt, movingFrom, movesAfter, playedAt, choiceAt, outcomeBy, outcomeAt, Chosen}
-
--- targets, as the grid has them
-
-pub unmark-absent : {t : ℕ} → t ≡ 256 → unmark t ≡ absent
-unfolding unmark
-unmark-absent {t} e = rw (eq-eqb t 256 e)
-
-pub unmark-to : {t : ℕ} → (t ≡ 256 → ⊥) → unmark t ≡ to t
-unfolding unmark
-unmark-to {t} n = rw (ne-eqb t 256 n)
-
-pub target-past : (g : List (List ℕ)) (q x : ℕ) → 256 ≤ q → unmark 256 ≡ cellAt g q x
-unfolding cellAt unmark both
-target-past g q x h = rw (le-ltb q 256 h)
-
-pub target-no-action : (g : List (List ℕ)) (q x : ℕ) → 8 ≤ x → unmark 256 ≡ cellAt g q x
-unfolding cellAt unmark
-target-no-action g q x h = rw (both-false (ltb q 256) _ (le-ltb x 8 h))
-
-pub target-in : (g : List (List ℕ)) (q x r : ℕ) → q < 256 → x < 8 → r ≡ getD (getD g q []) x 0 → unmark r ≡ cellAt g q x
-unfolding cellAt
-target-in g q x r h k e = rw (both-true _ _ (lt-ltb q 256 h) (lt-ltb x 8 k), e)
+use Rattle.walk.specs.code.Levels.{arenaOf}
+use Rattle.walk.specs.code.Walks.{fallenBy, blockedAt, movingFrom, movesAfter, playedAt, choiceAt, outcomeBy, outcomeAt, Chosen}
+use Rattle.sheet.specs.Limits.{mostPositions, mostPower}
+use Rattle.sheet.proofs.GridLaws.{unmark-absent, unmark-to}
 
 -- what has fallen
 
@@ -68,7 +50,7 @@ pub next-line : (f : List ℕ) (q : ℕ) {x y : ℕ} → x ≡ getD f q 0 → y 
     → record { blocked = false; action = h; rest = w; first = x; end = y } ≡ movingFrom f h w q
 next-line f q e d h w = rw (e, d, add-one q)
 
-pub ruleset leaves = (needs, target-past, target-no-action, target-in, fallen-past, fallen-none, fallen-marked, next-line)
+pub ruleset leaves = (needs, fallen-past, fallen-none, fallen-marked, next-line)
 
 -- choosing
 
@@ -81,7 +63,7 @@ safe-position p q e =
     (λ (h : length p ≤ q). absurd (not-both (rw (le-ltb q (length p) h) at e) refl))
     (below? q (length p))
 
-pub safe-small : (p : List ℕ) (q : ℕ) {r : Bool} → r ≡ safeAt p q → not r ≡ false → length p ≤ 256 → q < 256
+pub safe-small : (p : List ℕ) (q : ℕ) {r : Bool} → r ≡ safeAt p q → not r ≡ false → length p ≤ mostPositions → q < mostPositions
 safe-small p q {r} e n h = let k = safe-position p q (sym e ∙ not-false r n) in omega arith
 
 module _ (p : List ℕ) (g : List (List ℕ)) (f : List ℕ) (l : Level) (q w c : ℕ) (x : Choice) where
@@ -94,11 +76,11 @@ module _ (p : List ℕ) (g : List (List ℕ)) (f : List ℕ) (l : Level) (q w c 
   abbrev younger : ℕ
   younger = joined % l .words
 
-  pub choose-odd : l .odd ≡ true → x ≡ movingFrom f oldest younger q → x .end < 65536 → 0 < l .words → Chosen p g f l q w c x
+  pub choose-odd : l .odd ≡ true → x ≡ movingFrom f oldest younger q → x .end < mostPower → 0 < l .words → Chosen p g f l q w c x
   unfolding choiceAt playedAt
   choose-odd o e n m = record { choice = rw o e; end-small = n; rest-word = rw e (mod-lt joined m) }
 
-  pub choose-absent : {t : ℕ} → l .odd ≡ false → unmark t ≡ cellAt g q oldest → t ≡ 256 → x ≡ blockedAt oldest younger → 0 < l .words
+  pub choose-absent : {t : ℕ} → l .odd ≡ false → unmark t ≡ targetAt g q oldest → t ≡ absentMark → x ≡ blockedAt oldest younger → 0 < l .words
       → Chosen p g f l q w c x
   unfolding choiceAt playedAt movesAfter
   choose-absent {t} o u a e m =
@@ -108,23 +90,23 @@ module _ (p : List ℕ) (g : List (List ℕ)) (f : List ℕ) (l : Level) (q w c 
         rest-word = rw e (mod-lt joined m);
       }
 
-  pub choose-unsafe : {t : ℕ} {r : Bool} → l .odd ≡ false → unmark t ≡ cellAt g q oldest → (t ≡ 256 → ⊥) → r ≡ safeAt p t → not r ≡ true
-      → x ≡ blockedAt oldest younger → 0 < l .words → Chosen p g f l q w c x
+  pub choose-unsafe : {t v : ℕ} {r : Bool} → l .odd ≡ false → unmark t ≡ targetAt g q oldest → (t ≡ absentMark → ⊥) → v ≡ t → r ≡ safeAt p v
+      → not r ≡ true → x ≡ blockedAt oldest younger → 0 < l .words → Chosen p g f l q w c x
   unfolding choiceAt playedAt movesAfter
-  choose-unsafe {t} {r} o u a s n e m =
+  choose-unsafe {t} {v} {r} o u a d s n e m =
       record {
-        choice = rw (o, ← u, unmark-to a, ← s, not-true r n) e;
+        choice = rw (o, ← u, unmark-to a, ← d, ← s, not-true r n) e;
         end-small = rw e (omega arith);
         rest-word = rw e (mod-lt joined m);
       }
 
-  pub choose-even : {t : ℕ} {r : Bool} → l .odd ≡ false → unmark t ≡ cellAt g q oldest → (t ≡ 256 → ⊥) → r ≡ safeAt p t → not r ≡ false
-      → x ≡ movingFrom f oldest younger t → x .end < 65536 → 0 < l .words → Chosen p g f l q w c x
+  pub choose-even : {t v : ℕ} {r : Bool} → l .odd ≡ false → unmark t ≡ targetAt g q oldest → (t ≡ absentMark → ⊥) → v ≡ t → r ≡ safeAt p v
+      → not r ≡ false → x ≡ movingFrom f oldest younger v → x .end < mostPower → 0 < l .words → Chosen p g f l q w c x
   unfolding choiceAt playedAt movesAfter
-  choose-even {t} {r} o u a s n e d m =
+  choose-even {t} {v} {r} o u a d s n e z m =
       record {
-        choice = rw (o, ← u, unmark-to a, ← s, not-false r n) e;
-        end-small = d;
+        choice = rw (o, ← u, unmark-to a, ← d, ← s, not-false r n) e;
+        end-small = z;
         rest-word = rw e (mod-lt joined m);
       }
 
@@ -144,17 +126,17 @@ module _ (p : List ℕ) (g : List (List ℕ)) (u : List ℕ) (l : Level) (fallen
   spoils-unsafe {b} {t} {s} o e d a n = rw (not-false (l .odd) o, ← e, ← d, ← a, not-true s n)
 
   pub spoils-absent : {b t q : ℕ} {s : Bool} → not (l .odd) ≡ false → b ≡ getD u (2 * line + 1) 0 → t ≡ b → s ≡ safeAt p t
-      → not s ≡ false → unmark q ≡ cellAt g t (x .action) → q ≡ 256 → true ≡ bad fallen (outcomeAt p g l x (toAt u line))
+      → not s ≡ false → unmark q ≡ targetAt g t (x .action) → q ≡ absentMark → true ≡ bad fallen (outcomeAt p g l x (toAt u line))
   unfolding outcomeAt outcomeBy bad toAt withWord
   spoils-absent {b} {t} {q} {s} o e d a n m z =
       rw (not-false (l .odd) o, ← e, ← d, ← a, not-false s n, ← m, unmark-absent z)
 
-  pub spoils-odd : {b t q : ℕ} {s r : Bool} → not (l .odd) ≡ false → b ≡ getD u (2 * line + 1) 0 → t ≡ b → s ≡ safeAt p t
-      → not s ≡ false → unmark q ≡ cellAt g t (x .action) → (q ≡ 256 → ⊥) → r ≡ fallen (q * l .words + x .rest)
+  pub spoils-odd : {b t q v : ℕ} {s r : Bool} → not (l .odd) ≡ false → b ≡ getD u (2 * line + 1) 0 → t ≡ b → s ≡ safeAt p t
+      → not s ≡ false → unmark q ≡ targetAt g t (x .action) → (q ≡ absentMark → ⊥) → v ≡ q → r ≡ fallen (v * l .words + x .rest)
       → r ≡ bad fallen (outcomeAt p g l x (toAt u line))
   unfolding outcomeAt outcomeBy bad toAt withWord
-  spoils-odd {b} {t} {q} {s} {r} o e d a n m z f =
-      rw (not-false (l .odd) o, ← e, ← d, ← a, not-false s n, ← m, unmark-to z) f
+  spoils-odd {b} {t} {q} {v} {s} {r} o e d a n m z i f =
+      rw (not-false (l .odd) o, ← e, ← d, ← a, not-false s n, ← m, unmark-to z, ← i) f
 
 pub ruleset spoiling = (needs, spoils-even, spoils-unsafe, spoils-absent, spoils-odd)
 
@@ -217,7 +199,7 @@ module _ (p : List ℕ) (g : List (List ℕ)) (u f : List ℕ) (l : Level) (fall
   -- theory's `spoiltBy`, by the choice that the code makes
   pub chosen : (k c : ℕ) {x : Choice} → Chosen p g f l (k / l .words) (k % l .words) c x
       → spoiltBy (arenaOf p g u f l) fallen k c ≡ spoiltWith p g u l fallen x
-  unfolding spoiltBy arenaOf levelArena viewOf choiceAt
+  unfolding spoiltBy arenaOf step viewOf choiceAt
   chosen k c {x} h =
       by-parity (k / l .words) ((k % l .words) * l .actions + c) (l .odd) refl
       ∙ ap (spoiltWith p g u l fallen) (sym (h .choice))
@@ -278,7 +260,7 @@ module _ (p : List ℕ) (g : List (List ℕ)) (u f : List ℕ) (l : Level) (fall
   line-kept c line x e h = sym (e ∙ from-end p g u l fallen x line h)
 
 -- a node's position
-pub node-small : {k m n p : ℕ} → k < n → n ≡ p * m → p ≤ 256 → 0 < m → k / m < 256
+pub node-small : {k m n p : ℕ} → k < n → n ≡ p * m → p ≤ mostPositions → 0 < m → k / m < mostPositions
 node-small {k} {m} {n} {p} h e s z =
     let b : k / m < p = div-lt-iff-lt-mul z .1 (rw e at h) in omega arith
 

@@ -1,4 +1,2 @@
--- The nodes of the solver's arrays, and what the walk over one finds. Each file says what it defines.
-pub mod View
-pub mod Nodes
-pub mod Walks
+-- All of it is the code's own vocabulary. Each file says what it defines.
+pub mod code

@@ -4,20 +4,22 @@ use crate::level::Level;
 use crate::level::is_node;
 use sheet::form::byte;
 use sheet::form::wide;
+use sheet::form::wide16;
+use sheet::grid::target;
 use sheet::kinds::safe_at;
+use sheet::limits::ABSENT;
+use sheet::limits::INDEX;
+use sheet::limits::ROW;
+use sheet::limits::ROWS;
 ghost use mathlib.Core.Path.{_≡_};
 ghost use Prim.Native.Nat.{_≤_, _<_};
-ghost use lib.Dec.{ltb};
 ghost use lib.ListN.{length, getD};
-ghost use Rattle.theory.specs.Fold.{both, allBelow};
-ghost use Rattle.theory.specs.Rounds.{bad, spoiltBy};
-ghost use Rattle.sheet.specs.SheetGame.{unmark};
-ghost use Rattle.walk.specs.View.{cellAt, toAt, arenaOf};
-ghost use Rattle.walk.specs.Nodes.{Sized, isNode};
-ghost use Rattle.walk.specs.Walks.{fallenBy, blockedAt, movingFrom, outcomeAt, Chosen};
-
-// The mark of an absent target.
-pub const ABSENT: usize = 256;
+ghost use Rattle.theory.specs.Rounds.{bad};
+ghost use Rattle.sheet.specs.Limits.{mostPositions, mostPower, indexEntries};
+ghost use Rattle.sheet.specs.code.Arrays.{toAt};
+ghost use Rattle.walk.specs.code.Nodes.{Sized};
+ghost use Rattle.walk.specs.code.Walks.{fallenBy, blockedAt, movingFrom, outcomeAt, Chosen};
+ghost use Rattle.walk.specs.code.Walks.{spoiltIn, allSpoiltIn, spoiltAnswer, allSpoiltAnswer};
 
 // What choosing an action at a node leads to: the oldest action is played and rest is pending after it; the environment's moves
 // are on the lines from first to end; blocked where the action is spoilt before it moves.
@@ -29,29 +31,11 @@ pub struct Choice {
     pub end: usize,
 }
 
-fn wide_mark(x: u16) -> usize
-    ensures { λ r. ⌜ (r ≡ x) × (x < 65536) ⌝ }
+fn line_of(firsts: &[u16; INDEX], q: usize) -> usize
+    requires { ⌜ q < indexEntries ⌝ }
+    ensures { λ r. ⌜ (r ≡ getD (now (firsts .entry)) q 0) × (r < mostPower) ⌝ }
 {
-    x as usize
-}
-
-pub fn target(grid: &[[u16; 8]; 256], q: usize, x: usize) -> usize
-    ensures { λ r. ⌜ (unmark r ≡ cellAt (now (grid .entry)) q x) × (r < 65536) ⌝ }
-{
-    if 256 <= q {
-        return ABSENT;
-    }
-    if 8 <= x {
-        return ABSENT;
-    }
-    wide_mark(grid[q][x])
-}
-
-fn line_of(firsts: &[u16; 257], q: usize) -> usize
-    requires { ⌜ q < 257 ⌝ }
-    ensures { λ r. ⌜ (r ≡ getD (now (firsts .entry)) q 0) × (r < 65536) ⌝ }
-{
-    wide_mark(firsts[q])
+    wide16(firsts[q])
 }
 
 fn fallen(marks: &[u16], n: u16, node: usize) -> bool
@@ -80,9 +64,9 @@ fn blocked(action: usize, rest: usize) -> Choice
 }
 
 // The environment moves from q.
-fn moves_from(firsts: &[u16; 257], action: usize, rest: usize, q: usize) -> Choice
-    requires { ⌜ q < 256 ⌝ }
-    ensures { λ r. ⌜ (r ≡ movingFrom (now (firsts .entry)) action rest q) × (r .end < 65536) ⌝ }
+fn moves_from(firsts: &[u16; INDEX], action: usize, rest: usize, q: usize) -> Choice
+    requires { ⌜ q < mostPositions ⌝ }
+    ensures { λ r. ⌜ (r ≡ movingFrom (now (firsts .entry)) action rest q) × (r .end < mostPower) ⌝ }
 {
     Choice {
         blocked: false,
@@ -96,14 +80,14 @@ fn moves_from(firsts: &[u16; 257], action: usize, rest: usize, q: usize) -> Choi
 // Action c joined to the pending word w, at position q.
 fn choose(
     p: &[u8],
-    grid: &[[u16; 8]; 256],
-    firsts: &[u16; 257],
+    grid: &[[u16; ROW]; ROWS],
+    firsts: &[u16; INDEX],
     level: Level,
     q: usize,
     w: usize,
     c: usize,
 ) -> Choice
-    requires { ⌜ (Sized (length (now p)) level) × (q < 256) × (w < level .words) × (c < level .actions) ⌝ }
+    requires { ⌜ (Sized (length (now p)) level) × (q < mostPositions) × (w < level .words) × (c < level .actions) ⌝ }
     ensures { λ r. ⌜ Chosen (now (p .entry)) (now (grid .entry)) (now (firsts .entry)) level q w c r ⌝ }
 {
     let joined = w * level.actions + c;
@@ -116,16 +100,17 @@ fn choose(
     if reached == ABSENT {
         return blocked(action, rest);
     }
-    if !safe_at(p, reached) {
+    let to = wide16(reached);
+    if !safe_at(p, to) {
         return blocked(action, rest);
     }
-    moves_from(firsts, action, rest, reached)
+    moves_from(firsts, action, rest, to)
 }
 
 // Does the environment's move on this line spoil the choice?
 fn spoils(
     p: &[u8],
-    grid: &[[u16; 8]; 256],
+    grid: &[[u16; ROW]; ROWS],
     u: &[u8],
     level: Level,
     marks: &[u16],
@@ -133,8 +118,11 @@ fn spoils(
     x: Choice,
     line: usize,
 ) -> bool
-    requires { ⌜ (level .words ≤ 65536) × (x .rest < level .words) × (line < 65536) ⌝ }
-    ensures { λ r. ⌜ r ≡ bad (fallenBy n (now (marks .entry))) (outcomeAt (now (p .entry)) (now (grid .entry)) level x (toAt (now (u .entry)) line)) ⌝ }
+    requires { ⌜ (level .words ≤ mostPower) × (x .rest < level .words) × (line < mostPower) ⌝ }
+    ensures { λ r.
+        ⌜ r
+        ≡ bad (fallenBy n (now (marks .entry)))
+        (outcomeAt (now (p .entry)) (now (grid .entry)) level x (toAt (now (u .entry)) line)) ⌝ }
 {
     let to = wide(byte(u, 2 * line + 1));
     if !level.odd {
@@ -147,15 +135,15 @@ fn spoils(
     if reached == ABSENT {
         return true;
     }
-    fallen(marks, n, reached * level.words + x.rest)
+    fallen(marks, n, wide16(reached) * level.words + x.rest)
 }
 
 // Is action c spoilt at node k, which exists?
 fn spoilt_at(
     p: &[u8],
-    grid: &[[u16; 8]; 256],
+    grid: &[[u16; ROW]; ROWS],
     u: &[u8],
-    firsts: &[u16; 257],
+    firsts: &[u16; INDEX],
     level: Level,
     marks: &[u16],
     n: u16,
@@ -163,7 +151,8 @@ fn spoilt_at(
     c: usize,
 ) -> bool
     requires { ⌜ (Sized (length (now p)) level) × (k < level .nodes) × (c < level .actions) ⌝ }
-    ensures { λ r. ⌜ r ≡ spoiltBy (arenaOf (now (p .entry)) (now (grid .entry)) (now (u .entry)) (now (firsts .entry)) level) (fallenBy n (now (marks .entry))) k c ⌝ }
+    ensures { λ r.
+        ⌜ r ≡ spoiltIn (now (p .entry)) (now (grid .entry)) (now (u .entry)) (now (firsts .entry)) level (now (marks .entry)) n k c ⌝ }
 {
     let x = choose(p, grid, firsts, level, k / level.words, k % level.words, c);
     if x.blocked {
@@ -183,16 +172,17 @@ fn spoilt_at(
 // whose lines all pass ends the walk.
 fn all_spoilt_at(
     p: &[u8],
-    grid: &[[u16; 8]; 256],
+    grid: &[[u16; ROW]; ROWS],
     u: &[u8],
-    firsts: &[u16; 257],
+    firsts: &[u16; INDEX],
     level: Level,
     marks: &[u16],
     n: u16,
     k: usize,
 ) -> bool
     requires { ⌜ (Sized (length (now p)) level) × (k < level .nodes) ⌝ }
-    ensures { λ r. ⌜ r ≡ allBelow (spoiltBy (arenaOf (now (p .entry)) (now (grid .entry)) (now (u .entry)) (now (firsts .entry)) level) (fallenBy n (now (marks .entry))) k) (level .actions) ⌝ }
+    ensures { λ r.
+        ⌜ r ≡ allSpoiltIn (now (p .entry)) (now (grid .entry)) (now (u .entry)) (now (firsts .entry)) level (now (marks .entry)) n k ⌝ }
 {
     let q = k / level.words;
     let w = k % level.words;
@@ -223,16 +213,17 @@ fn all_spoilt_at(
 // Is action c spoilt at node k? Where there is no such node or action, no.
 pub fn spoilt(
     p: &[u8],
-    grid: &[[u16; 8]; 256],
+    grid: &[[u16; ROW]; ROWS],
     u: &[u8],
-    firsts: &[u16; 257],
+    firsts: &[u16; INDEX],
     level: Level,
     marks: &[u16],
     n: u16,
     k: usize,
     c: usize,
 ) -> bool
-    ensures { λ r. ⌜ r ≡ both (isNode (length (now (p .entry))) level k) (both (ltb c (level .actions)) (spoiltBy (arenaOf (now (p .entry)) (now (grid .entry)) (now (u .entry)) (now (firsts .entry)) level) (fallenBy n (now (marks .entry))) k c)) ⌝ }
+    ensures { λ r.
+        ⌜ r ≡ spoiltAnswer (now (p .entry)) (now (grid .entry)) (now (u .entry)) (now (firsts .entry)) level (now (marks .entry)) n k c ⌝ }
 {
     if !is_node(p.len(), level, k) {
         return false;
@@ -246,15 +237,16 @@ pub fn spoilt(
 // Is every action spoilt at node k? A node that does not exist: no.
 pub fn all_spoilt(
     p: &[u8],
-    grid: &[[u16; 8]; 256],
+    grid: &[[u16; ROW]; ROWS],
     u: &[u8],
-    firsts: &[u16; 257],
+    firsts: &[u16; INDEX],
     level: Level,
     marks: &[u16],
     n: u16,
     k: usize,
 ) -> bool
-    ensures { λ r. ⌜ r ≡ both (isNode (length (now (p .entry))) level k) (allBelow (spoiltBy (arenaOf (now (p .entry)) (now (grid .entry)) (now (u .entry)) (now (firsts .entry)) level) (fallenBy n (now (marks .entry))) k) (level .actions)) ⌝ }
+    ensures { λ r.
+        ⌜ r ≡ allSpoiltAnswer (now (p .entry)) (now (grid .entry)) (now (u .entry)) (now (firsts .entry)) level (now (marks .entry)) n k ⌝ }
 {
     if !is_node(p.len(), level, k) {
         return false;

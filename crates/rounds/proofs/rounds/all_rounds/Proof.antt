@@ -4,8 +4,8 @@ use Prim.Native.Nat.{_+_, _≤_}
 use mathlib.Core.Path.{_≡_}
 use lib.ListN.{length}
 use Rattle.theory.specs.Rounds.{ranksAfter}
-use Rattle.walk.specs.View.{arenaOf}
-use Rattle.rounds.specs.Falling.{lastRound}
+use Rattle.walk.specs.code.Levels.{arenaOf}
+use Rattle.rounds.specs.code.Falling.{lastRound}
 use Rattle.rounds.proofs.RoundLaws.{standing, allRounds}
 use Rattle.rounds.proofs.rounds.all_rounds.Statement.{statement}
 use Rattle.rounds.proofs.rounds.all_rounds.Tie as tie

@@ -2,8 +2,8 @@
 use Prim.Native.Nat.{_-_, _≤_}
 use mathlib.Core.Path.{_≡_}
 use lib.ListN.{length}
-use Rattle.rounds.specs.Falling.{firstRank}
-use Rattle.rounds.proofs.Filling.{filled}
+use Rattle.rounds.specs.code.Falling.{firstRank}
+use Rattle.theory.proofs.Filling.{filled}
 use Rattle.rounds.proofs.RoundLaws.{filling}
 use Rattle.rounds.proofs.rounds.first_round.Statement.{statement}
 use Rattle.rounds.proofs.rounds.first_round.Tie as tie

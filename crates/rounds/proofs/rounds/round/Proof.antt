@@ -6,9 +6,9 @@ use native.Mathlib.Omega.{arith}
 use lib.ListN.{length, length-set}
 use Rattle.theory.specs.Fold.{anyBelow}
 use Rattle.theory.specs.Rounds.{rankIn}
-use Rattle.walk.specs.View.{arenaOf}
-use Rattle.rounds.specs.Falling.{fallsNext}
-use Rattle.rounds.proofs.Filling.{filled}
+use Rattle.walk.specs.code.Levels.{arenaOf}
+use Rattle.rounds.specs.code.Falling.{fallsNext}
+use Rattle.theory.proofs.Filling.{filled}
 use Rattle.rounds.proofs.RoundLaws.{round-fell, round-kept, any-fell, any-kept, rounding}
 use Rattle.rounds.proofs.rounds.round.Statement.{statement}
 use Rattle.rounds.proofs.rounds.round.Tie as tie

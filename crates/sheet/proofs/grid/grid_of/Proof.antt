@@ -6,7 +6,7 @@ use mathlib.Core.Logic.{⊎-elim}
 use native.Mathlib.Omega.{arith}
 use lib.ListN.{length}
 use borrow.Author.Needs.{needs}
-use Rattle.sheet.specs.SheetGame.{gridAfter}
+use Rattle.sheet.specs.code.Arrays.{gridAfter}
 use Rattle.sheet.proofs.GridLaws.{grid-start, grid-line, grid-skip, grid-done}
 use Rattle.sheet.proofs.grid.grid_of.Statement.{statement}
 use Rattle.sheet.proofs.grid.grid_of.Tie as tie

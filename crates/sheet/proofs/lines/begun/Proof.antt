@@ -7,9 +7,10 @@ use Rattle.sheet.specs.Checks.{hasLine}
 use Rattle.sheet.proofs.CheckLaws.{beginning, line-within}
 use Rattle.sheet.proofs.lines.begun.Statement.{statement}
 use Rattle.sheet.proofs.lines.begun.Tie as tie
+use Rattle.sheet.specs.Limits.{mostPositions}
 
 abbrev Inv-loop : tie.InvT-loop
-Inv-loop width b n begun₀ k₀ begun k = (k ≤ n) × (begun ≡ tabulate (hasLine width b k) 0 256)
+Inv-loop width b n begun₀ k₀ begun k = (k ≤ n) × (begun ≡ tabulate (hasLine width b k) 0 mostPositions)
 
 abbrev μ-loop : tie.MeasureT-loop
 μ-loop width b n begun₀ k₀ begun k = n - k

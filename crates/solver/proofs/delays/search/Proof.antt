@@ -2,7 +2,7 @@
 use Prim.Native.Nat.{_-_}
 use lib.ListN.{length}
 use Rattle.sheet.specs.Checks.{nodesOf}
-use Rattle.walk.specs.View.{viewOf}
+use Rattle.sheet.specs.code.Arrays.{viewOf}
 use Rattle.solver.proofs.SearchLaws.{Searched, upward}
 use Rattle.solver.proofs.delays.search.Statement.{statement}
 use Rattle.solver.proofs.delays.search.Tie as tie

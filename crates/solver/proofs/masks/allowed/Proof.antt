@@ -3,7 +3,7 @@ use Prim.Native.Nat.{_-_, _≤_, _^_}
 use mathlib.Core.Path.{_≡_}
 use mathlib.Core.Logic.{⊎-elim}
 use borrow.Author.Needs.{needs}
-use Rattle.walk.specs.View.{arenaOf}
+use Rattle.walk.specs.code.Levels.{arenaOf}
 use Rattle.solver.proofs.MaskLaws.{allowedBelow, bits, bits-set, bits-kept, bit-next}
 use Rattle.solver.proofs.masks.allowed.Statement.{statement}
 use Rattle.solver.proofs.masks.allowed.Tie as tie

@@ -3,8 +3,8 @@ use Prim.Native.Nat.{_-_, _≤_}
 use mathlib.Core.Path.{_≡_}
 use lib.ListN.{length}
 use Rattle.theory.specs.Rounds.{maskAt}
-use Rattle.walk.specs.View.{arenaOf}
-use Rattle.rounds.proofs.Filling.{filled}
+use Rattle.walk.specs.code.Levels.{arenaOf}
+use Rattle.theory.proofs.Filling.{filled}
 use Rattle.solver.proofs.MaskLaws.{all-masks}
 use Rattle.solver.proofs.masks.fill_masks.Statement.{statement}
 use Rattle.solver.proofs.masks.fill_masks.Tie as tie

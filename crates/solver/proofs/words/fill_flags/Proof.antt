@@ -2,14 +2,15 @@
 use Prim.Native.Nat.{_-_, _≤_}
 use mathlib.Core.Path.{_≡_}
 use lib.ListN.{length}
-use Rattle.rounds.proofs.Filling.{filled}
-use Rattle.solver.specs.Flags.{flagIn}
+use Rattle.theory.proofs.Filling.{filled}
+use Rattle.theory.specs.Delay.{flagBy}
+use Rattle.solver.specs.code.Kept.{goodIn}
 use Rattle.solver.proofs.FlagLaws.{all-flags}
 use Rattle.solver.proofs.words.fill_flags.Statement.{statement}
 use Rattle.solver.proofs.words.fill_flags.Tie as tie
 
 abbrev Inv-loop : tie.InvT-loop
-Inv-loop p grid level ranks flags₀ n v₀ flags v = (v ≤ n) × (length flags ≡ length flags₀) × (flags ≡ filled (flagIn p grid level ranks) v flags₀)
+Inv-loop p grid level ranks flags₀ n v₀ flags v = (v ≤ n) × (length flags ≡ length flags₀) × (flags ≡ filled (flagBy (goodIn p grid level ranks)) v flags₀)
 
 abbrev μ-loop : tie.MeasureT-loop
 μ-loop p grid level ranks flags₀ n v₀ flags v = n - v

@@ -3,7 +3,7 @@ use Prim.Native.Nat.{_-_, _≤_}
 use mathlib.Core.Path.{_≡_}
 use mathlib.Core.Bool.{false}
 use Rattle.theory.specs.Fold.{anyBelow}
-use Rattle.solver.specs.Kept.{goodIn}
+use Rattle.solver.specs.code.Kept.{goodIn}
 use Rattle.solver.proofs.GoodLaws.{searching}
 use Rattle.solver.proofs.words.some_good.Statement.{statement}
 use Rattle.solver.proofs.words.some_good.Tie as tie

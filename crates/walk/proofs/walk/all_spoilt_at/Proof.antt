@@ -4,8 +4,8 @@ use mathlib.Core.Path.{_≡_}
 use mathlib.Core.Bool.{true}
 use Rattle.theory.specs.Fold.{allBelow}
 use Rattle.theory.specs.Rounds.{spoiltBy}
-use Rattle.walk.specs.View.{arenaOf}
-use Rattle.walk.specs.Walks.{fallenBy}
+use Rattle.walk.specs.code.Levels.{arenaOf}
+use Rattle.walk.specs.code.Walks.{fallenBy}
 use Rattle.walk.proofs.WalkLaws.{spoiltFrom, walks}
 use Rattle.walk.proofs.walk.all_spoilt_at.Statement.{statement}
 use Rattle.walk.proofs.walk.all_spoilt_at.Tie as tie

@@ -19,5 +19,5 @@ choose-spec =
     tie.close
     (tie.spec mul-joined add-joined (λ c. search choosing) (λ c. search choosing) (λ c κs. search choosing)
     (λ c. search choosing) (λ c κs. search choosing) (λ c κs. search choosing) (λ c. search choosing)
-    (λ c κs. search choosing) (λ c κs. search choosing) (λ c. search choosing) moves-from-requires-2
-    (λ c. search choosing))
+    (λ c κs. search choosing) (λ c κs. search choosing) (λ c κs. search choosing) (λ c. search choosing)
+    moves-from-requires-2 (λ c. search choosing))

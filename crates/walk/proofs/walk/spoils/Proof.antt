@@ -22,5 +22,5 @@ spoils-spec =
     tie.close
     (tie.spec (λ c. search spoiling) (λ c. search spoiling) (λ c κs. search spoiling) (λ c κs. search spoiling)
     mul-fallen add-fallen (λ c κs. search spoiling) (λ c. search spoiling) (λ c κs. search spoiling)
-    (λ c. search spoiling) (λ c κs. search spoiling) (λ c. search spoiling) mul-fallen-2 add-fallen-2
+    (λ c. search spoiling) (λ c κs. search spoiling) (λ c. search spoiling) (λ c κs. search spoiling) mul-fallen-2 add-fallen-2
     (λ c κs. search spoiling) (λ c. search spoiling))

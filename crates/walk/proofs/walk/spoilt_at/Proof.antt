@@ -2,8 +2,8 @@
 use Prim.Native.Nat.{_-_}
 use mathlib.Core.Path.{_≡_}
 use Rattle.theory.specs.Rounds.{spoiltBy}
-use Rattle.walk.specs.View.{arenaOf}
-use Rattle.walk.specs.Walks.{fallenBy}
+use Rattle.walk.specs.code.Levels.{arenaOf}
+use Rattle.walk.specs.code.Walks.{fallenBy}
 use Rattle.walk.proofs.WalkLaws.{spoiltFrom, walking}
 use Rattle.walk.proofs.walk.spoilt_at.Statement.{statement}
 use Rattle.walk.proofs.walk.spoilt_at.Tie as tie

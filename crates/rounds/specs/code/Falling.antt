@@ -4,22 +4,19 @@ use mathlib.Core.Path.{_≡_}
 use mathlib.Core.Bool.{Bool, true, false, not, cond}
 use mathlib.Core.List.{List, [], _∷_}
 use lib.Dec.{eqb}
-use lib.ListN.{getD}
-use Rattle.theory.specs.Fold.{both, allBelow, tabulate}
+use lib.ListN.{getD, length}
+use Rattle.theory.specs.Fold.{both, allBelow, tabulate, anyBelow}
 use Rattle.theory.specs.Rounds.{Arena, spoiltBy, fell, falls, rankIn, finalRanks}
 use Rattle.sheet.specs.Kinds.{controllerAt, safeAt}
 use Rattle.walk.specs.declared.level.Level.{Level}
-use Rattle.walk.specs.Nodes.{isSized}
-use Rattle.walk.specs.Walks.{fallenBy}
-
--- "For even d the position is own, for odd d yard"
-unfoldable pub rightAt : Bool → List ℕ → ℕ → Bool
-rightAt true p q = not (controllerAt p q)
-rightAt false p q = controllerAt p q
+use Rattle.walk.specs.code.Nodes.{isSized}
+use Rattle.walk.specs.code.Walks.{fallenBy}
+use Rattle.theory.specs.Delay.{onRight}
+use Rattle.walk.specs.code.Levels.{arenaOf}
 
 -- a node's rank after round 1
 unfoldable pub firstRank : List ℕ → Level → ℕ → ℕ
-firstRank p l k = cond (both (rightAt (l .odd) p (k / l .words)) (not (safeAt p (k / l .words)))) 1 0
+firstRank p l k = cond (both (onRight (l .odd) (controllerAt p) (k / l .words)) (not (safeAt p (k / l .words)))) 1 0
 
 -- node k, without a rank yet, falls to the nodes of rank 1 to n
 unfoldable pub fallsTo : Arena → ℕ → List ℕ → ℕ → Bool
@@ -50,3 +47,16 @@ isFitted positions l entries = both (isSized positions l) (eqb entries (l .nodes
 unfoldable pub Ranked : Bool → Arena → List ℕ → List ℕ → ℕ → Type 0
 Ranked true E before after n = (after ≡ finalRanks E) × (n ≡ lastRound after)
 Ranked false E before after n = (after ≡ before) × (n ≡ 0)
+
+-- over the arrays: what round n + 1 leaves of the ranks before it, and whether a node fell
+abbrev pub RoundLeaves : List ℕ → List (List ℕ) → List ℕ → List ℕ → Level → ℕ → List ℕ → List ℕ → Bool → Type 0
+RoundLeaves p g u f l n before after any =
+    (after ≡ nextRanks (arenaOf p g u f l) n before) × (any ≡ anyBelow (fallsNext (arenaOf p g u f l) n before) (l .nodes))
+
+-- what all rounds leave, and the number of the last
+abbrev pub FinalRanks : List ℕ → List (List ℕ) → List ℕ → List ℕ → Level → List ℕ → ℕ → Type 0
+FinalRanks p g u f l after n = (after ≡ finalRanks (arenaOf p g u f l)) × (n ≡ lastRound after)
+
+-- the same for any level and buffer
+abbrev pub RanksLeft : List ℕ → List (List ℕ) → List ℕ → List ℕ → Level → List ℕ → List ℕ → ℕ → Type 0
+RanksLeft p g u f l before after n = Ranked (isFitted (length p) l (length before)) (arenaOf p g u f l) before after n

@@ -7,21 +7,15 @@ use lib.ListN.{length}
 use Rattle.theory.specs.Fold.{tabulate}
 use Rattle.theory.specs.Answer.{Answer, refused, accepted}
 use Rattle.theory.specs.Game.{Game}
-use Rattle.theory.specs.Delay.{initialWords, goodWith}
+use Rattle.theory.specs.Delay.{initialWords, goodWith, flagBy}
 use Rattle.sheet.specs.Reading.{readAnswer, delayOf}
 use Rattle.sheet.specs.SheetGame.{gameOf}
 use Rattle.sheet.specs.declared.reading.Layout.{Layout}
-use Rattle.walk.specs.declared.level.Level.{Level}
-use Rattle.solver.specs.Kept.{goodIn}
 use Rattle.theory.specs.Buffer.{over}
 
 -- "1 if good, else 0", by any ranks
 unfoldable pub flagWith : Game → ℕ → List ℕ → ℕ → ℕ
-flagWith G d ranks v = cond (goodWith G d ranks v) 1 0
-
--- the same over the solver's arrays
-unfoldable pub flagIn : List ℕ → List (List ℕ) → Level → List ℕ → ℕ → ℕ
-flagIn p g l ranks v = cond (goodIn p g l ranks v) 1 0
+flagWith G d ranks = flagBy (goodWith G d ranks)
 
 -- how many flags are written: one for each first word of an accepted sheet, where there is room for all; else none
 unfoldable pub countIn : Answer Layout → ℕ → ℕ → ℕ

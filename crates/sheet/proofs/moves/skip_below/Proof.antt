@@ -4,20 +4,20 @@ use mathlib.Core.Path.{_≡_}
 use mathlib.Core.Bool.{true}
 use lib.ListN.{length}
 use Rattle.theory.specs.Fold.{allBelow}
-use Rattle.solver.specs.Levels.{fromBelow}
-use Rattle.solver.proofs.MoveLaws.{skipping}
-use Rattle.solver.proofs.moves.skip_below.Statement.{statement}
-use Rattle.solver.proofs.moves.skip_below.Tie as tie
+use Rattle.sheet.specs.code.Arrays.{fromBelow, lineCount}
+use Rattle.sheet.proofs.MoveLaws.{skipping}
+use Rattle.sheet.proofs.moves.skip_below.Statement.{statement}
+use Rattle.sheet.proofs.moves.skip_below.Tie as tie
 
 abbrev Inv-loop : tie.InvT-loop
-Inv-loop u from q n line₀ line = (line ≤ length u / 2) × (allBelow (fromBelow u q) line ≡ true)
+Inv-loop u from q n line₀ line = (line ≤ lineCount u) × (allBelow (fromBelow u q) line ≡ true)
 
 abbrev μ-loop : tie.MeasureT-loop
-μ-loop u from q n line₀ line = length u / 2 - line
+μ-loop u from q n line₀ line = lineCount u - line
 
 pub skip-below-spec : {M : Type 1} → statement M
 skip-below-spec =
     tie.close
-    (tie.spec Inv-loop μ-loop (λ c. search skipping) (λ c. search skipping) (λ c. search skipping)
+    (tie.spec Inv-loop μ-loop (λ c κs. search skipping) (λ c. search skipping) (λ c. search skipping) (λ c. search skipping)
     (λ c κs. search skipping) (λ c. search skipping) (λ c. search skipping) (λ c. search skipping)
     (λ c. search skipping) (λ c. search skipping))

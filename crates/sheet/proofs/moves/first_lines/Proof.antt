@@ -5,18 +5,19 @@ use mathlib.Core.Bool.{true}
 use native.Mathlib.Omega.{arith}
 use lib.ListN.{length}
 use Rattle.theory.specs.Fold.{allBelow}
-use Rattle.rounds.proofs.Filling.{filled}
-use Rattle.solver.specs.Levels.{fromBelow, firstLine}
-use Rattle.solver.proofs.MoveLaws.{index-inside, indexing}
-use Rattle.solver.proofs.moves.first_lines.Statement.{statement}
-use Rattle.solver.proofs.moves.first_lines.Tie as tie
+use Rattle.theory.proofs.Filling.{filled}
+use Rattle.sheet.specs.code.Arrays.{fromBelow, firstLine, lineCount}
+use Rattle.sheet.proofs.MoveLaws.{index-inside, indexing}
+use Rattle.sheet.proofs.moves.first_lines.Statement.{statement}
+use Rattle.sheet.proofs.moves.first_lines.Tie as tie
+use Rattle.sheet.specs.Limits.{indexEntries}
 
 abbrev Inv-loop : tie.InvT-loop
 Inv-loop u firsts₀ line₀ q₀ firsts line q =
-    (q ≤ 257) × (line ≤ length u / 2) × (allBelow (fromBelow u q) line ≡ true) × (length firsts₀ ≡ 257) × (length firsts ≡ 257) × (firsts ≡ filled (firstLine u) q firsts₀)
+    (q ≤ indexEntries) × (line ≤ lineCount u) × (allBelow (fromBelow u q) line ≡ true) × (length firsts₀ ≡ indexEntries) × (length firsts ≡ indexEntries) × (firsts ≡ filled (firstLine u) q firsts₀)
 
 abbrev μ-loop : tie.MeasureT-loop
-μ-loop u firsts₀ line₀ q₀ firsts line q = 257 - q
+μ-loop u firsts₀ line₀ q₀ firsts line q = indexEntries - q
 
 cast-firsts : tie.Need-cast-firsts Inv-loop μ-loop
 cast-firsts c = omega (arith, index-inside _ _ (c .skip-below .ensures))

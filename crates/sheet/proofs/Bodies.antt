@@ -11,16 +11,14 @@ use borrow.Author.Tests.{ltb-true, ltb-false, eq-eqb, ne-eqb}
 use Rattle.theory.specs.Fold.{both, allBelow, tabulate}
 use Rattle.theory.specs.Game.{Target, Game}
 use Rattle.theory.proofs.Fold.{bool, below?, both-left, both-right, all-at, first, first-suc, tabulate-zero, tabulate-suc, getD-tabulate, getD-tabulate-out}
 use Rattle.sheet.specs.Kinds.{controllerAt, safeAt}
 use Rattle.sheet.specs.Reading.{positionsBody, targetsBody, movesBody, startOf, actionCount}
-use Rattle.sheet.specs.SheetGame.{movesIn, movesOf, gameOf, markOf, rowOf, gridOf, targetAt, targetIn}
-use Rattle.sheet.proofs.GridLaws.{row-at}
+use Rattle.sheet.specs.SheetGame.{movesIn, movesOf, gameOf}
 use Rattle.sheet.proofs.Accepted.{Read, ranges}
 use Rattle.sheet.proofs.Legality.{legal, target-read, moves-ordered}
-use Rattle.walk.specs.View.{cellAt, toAt, tosBetween, viewOf}
-use Rattle.solver.specs.Levels.{fromBelow, firstLine, firstsOf}
-use Rattle.solver.specs.Solving.{bodiesGame}
-use Rattle.solver.proofs.MoveLaws.{first-skips}
+use Rattle.sheet.specs.code.Arrays.{lineCount, fromBelow, firstLine, firstsOf, toAt, tosBetween, viewOf, gridOf, bodiesGame}
+use Rattle.sheet.proofs.MoveLaws.{first-skips}
+use Rattle.sheet.specs.Limits.{mostPositions, mostMoves, indexEntries}
 
 -- the lines of a U body: those of q, where its from never falls, lie between two first lines
 
@@ -60,19 +58,19 @@ module _ (u : List ℕ) (q : ℕ) where
   before-first k h = ltb-true _ _ (all-at (fromBelow u q) _ (first-skips u q .passed) k h)
 
   -- the first line itself is not below q
-  at-first : firstLine u q < length u / 2 → q ≤ fromAt u (firstLine u q)
+  at-first : firstLine u q < lineCount u → q ≤ fromAt u (firstLine u q)
   unfolding firstLine fromBelow
   at-first =
       ⊎-elim
-      (λ (e : allBelow (fromBelow u q) (length u / 2) ≡ true).
-      rw (first-suc (fromBelow u q) (length u / 2), e) (λ h. absurd (omega arith)))
-      (λ (e : allBelow (fromBelow u q) (length u / 2) ≡ false).
-      rw (first-suc (fromBelow u q) (length u / 2), e)
-      (λ h. ltb-false _ _ (first (fromBelow u q) (length u / 2) e .fails)))
-      (bool (allBelow (fromBelow u q) (length u / 2)))
+      (λ (e : allBelow (fromBelow u q) (lineCount u) ≡ true).
+      rw (first-suc (fromBelow u q) (lineCount u), e) (λ h. absurd (omega arith)))
+      (λ (e : allBelow (fromBelow u q) (lineCount u) ≡ false).
+      rw (first-suc (fromBelow u q) (lineCount u), e)
+      (λ h. ltb-false _ _ (first (fromBelow u q) (lineCount u) e .fails)))
+      (bool (allBelow (fromBelow u q) (lineCount u)))
 
-module _ (u : List ℕ) (ordered : (k : ℕ) → suc k < length u / 2 → fromAt u k ≤ fromAt u (suc k)) where
-  rising : (k m : ℕ) → k + m < length u / 2 → fromAt u k ≤ fromAt u (k + m)
+module _ (u : List ℕ) (few : length u / 2 ≤ mostMoves) (ordered : (k : ℕ) → suc k < lineCount u → fromAt u k ≤ fromAt u (suc k)) where
+  rising : (k m : ℕ) → k + m < lineCount u → fromAt u k ≤ fromAt u (k + m)
   rising k zero h = let z : k + 0 ≡ k = omega arith in rw z (omega arith)
   rising k (suc m) h =
       let z : k + suc m ≡ suc (k + m) = omega arith in
@@ -80,7 +78,7 @@ module _ (u : List ℕ) (ordered : (k : ℕ) → suc k < length u / 2 → fromAt
       let n = ordered (k + m) (omega arith) in
       rw z (omega arith)
 
-  from-first : (q k : ℕ) → firstLine u q ≤ k → k < length u / 2 → q ≤ fromAt u k
+  from-first : (q k : ℕ) → firstLine u q ≤ k → k < lineCount u → q ≤ fromAt u k
   from-first q k l h =
       let m : firstLine u q + (k - firstLine u q) ≡ k = omega arith in
       let a = at-first u q (omega arith) in
@@ -101,7 +99,7 @@ module _ (u : List ℕ) (ordered : (k : ℕ) → suc k < length u / 2 → fromAt
   -- so what the index gives is the moves of q, in line order
   pub lines-moves : (q : ℕ) → tosBetween u (firstLine u q) (firstLine u (suc q)) ≡ movesOf u q
   unfolding tosBetween movesOf
-  lines-moves q = sym whole
+  lines-moves q = let all : length u / 2 ≡ lineCount u = omega arith in sym (ap (movesIn u q 0) all ∙ whole)
     where
       a : ℕ
       a = firstLine u q
@@ -119,32 +117,32 @@ module _ (u : List ℕ) (ordered : (k : ℕ) → suc k < length u / 2 → fromAt
           moves-all u q a (b - a)
           (λ k l h. omega (arith, before-first u (suc q) k (omega arith), from-first q k (omega arith) (omega arith)))
 
-      none-after : movesIn u q b (length u / 2 - b) ≡ []
+      none-after : movesIn u q b (lineCount u - b) ≡ []
       none-after =
           let i = first-skips u (suc q) .inside in
-          moves-none u q b (length u / 2 - b) (λ k l h e. omega (arith, from-first (suc q) k (omega arith) (omega arith)))
+          moves-none u q b (lineCount u - b) (λ k l h e. omega (arith, from-first (suc q) k (omega arith) (omega arith)))
 
-      whole : movesIn u q 0 (length u / 2) ≡ tabulate (toAt u) a (b - a)
+      whole : movesIn u q 0 (lineCount u) ≡ tabulate (toAt u) a (b - a)
       whole =
           let n = first-next q in
           let i = first-skips u (suc q) .inside in
-          let x : length u / 2 ≡ a + ((b - a) + (length u / 2 - b)) = omega arith in
+          let x : lineCount u ≡ a + ((b - a) + (lineCount u - b)) = omega arith in
           let y : a + (b - a) ≡ b = omega arith in
           let z : 0 + a ≡ a = omega arith in
           ap (movesIn u q 0) x
-          ∙ moves-split u q a 0 ((b - a) + (length u / 2 - b))
+          ∙ moves-split u q a 0 ((b - a) + (lineCount u - b))
           ∙ rw (none-before, z)
-          (moves-split u q (b - a) a (length u / 2 - b) ∙ rw (y, none-after, those) (append-nil _))
+          (moves-split u q (b - a) a (lineCount u - b) ∙ rw (y, none-after, those) (append-nil _))
 
 -- the index has a first line for each position, and past them it gives nothing
 
-index-at : (u : List ℕ) (q : ℕ) → q < 257 → getD (firstsOf u) q 0 ≡ firstLine u q
+index-at : (u : List ℕ) (q : ℕ) → q < indexEntries → getD (firstsOf u) q 0 ≡ firstLine u q
 unfolding firstsOf
-index-at u q h = getD-tabulate (firstLine u) 257 q 0 h
+index-at u q h = getD-tabulate (firstLine u) indexEntries q 0 h
 
-index-past : (u : List ℕ) (q : ℕ) → 257 ≤ q → getD (firstsOf u) q 0 ≡ 0
+index-past : (u : List ℕ) (q : ℕ) → indexEntries ≤ q → getD (firstsOf u) q 0 ≡ 0
 unfolding firstsOf
-index-past u q h = getD-tabulate-out (firstLine u) 257 q 0 h
+index-past u q h = getD-tabulate-out (firstLine u) indexEntries q 0 h
 
 nothing : (u : List ℕ) (i : ℕ) → tosBetween u i 0 ≡ []
 unfolding tosBetween
@@ -154,43 +152,28 @@ no-member : (l : List ℕ) → ((x : ℕ) → List·Memᴰ x l → ⊥) → [] �
 no-member [] f = refl
 no-member (x ∷ xs) f = absurd (f x (List·Memᴰ·head refl))
 
--- a cell of the grid is there, whatever stands for a missing one
-cell-same : (c : List ℕ) (q x : ℕ) → cellAt (gridOf c) q x ≡ targetAt (gridOf c) q x
-unfolding cellAt targetAt gridOf rowOf
-cell-same c q x =
-    ⊎-elim
-    (λ (t : both (ltb q 256) (ltb x 8) ≡ true).
-    let h : x < 8 = ltb-true _ _ (both-right _ _ t) in
-    let f : ℕ → ℕ = λ y. markOf (targetIn c q y (length c / 3)) in
-    rw (t, row-at c (length c / 3) q (ltb-true _ _ (both-left _ _ t)), getD-tabulate f 8 x 0 h, getD-tabulate f 8 x 256 h))
-    (λ (t : both (ltb q 256) (ltb x 8) ≡ false). rw t)
-    (bool (both (ltb q 256) (ltb x 8)))
-
 module _ (s : List ℕ) (r : Read s) where
   moves-read : (q : ℕ) → tosBetween (movesBody s) (getD (firstsOf (movesBody s)) q 0) (getD (firstsOf (movesBody s)) (suc q) 0)
       ≡ movesOf (movesBody s) q
   unfolding gameOf
   moves-read q =
       ⊎-elim
-      (λ (h : q < 256).
+      (λ (h : q < mostPositions).
       rw (index-at (movesBody s) q (omega arith), index-at (movesBody s) (suc q) (omega arith))
-      (lines-moves (movesBody s) (moves-ordered s r) q))
-      (λ (h : 256 ≤ q).
+      (lines-moves (movesBody s) (ranges s r .few-moves) (λ k l. moves-ordered s r k (omega arith)) q))
+      (λ (h : mostPositions ≤ q).
       rw (index-past (movesBody s) (suc q) (omega arith))
       (nothing (movesBody s) (getD (firstsOf (movesBody s)) q 0)
       ∙ no-member (movesOf (movesBody s) q)
       (λ x m. let p = legal s r .moves q x m .from-position in let f = ranges s r .few-positions in omega arith)))
-      (below? q 256)
-
-  cell-read : (q x : ℕ) → cellAt (gridOf (targetsBody s)) q x ≡ gameOf s .target q x
-  cell-read q x = cell-same (targetsBody s) q x ∙ sym (target-read s r q x)
+      (below? q mostPositions)
 
   -- the arrays' game is the sheet's
   pub bodies-game : bodiesGame (positionsBody s) (targetsBody s) (movesBody s) (startOf s) (actionCount s) ≡ gameOf s
   unfolding bodiesGame viewOf gameOf
   bodies-game =
       ap (λ (t : ℕ → ℕ → Target). with t (λ q. tosBetween (movesBody s) (getD (firstsOf (movesBody s)) q 0) (getD (firstsOf (movesBody s)) (suc q) 0)))
-      (fun-ext (λ q. fun-ext (cell-read q)))
+      (fun-ext (λ q. fun-ext (λ x. sym (target-read s r q x))))
       ∙ ap (with (gameOf s .target)) (fun-ext moves-read)
     where
       with : (ℕ → ℕ → Target) → (ℕ → List ℕ) → Game

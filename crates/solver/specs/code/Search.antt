@@ -1,0 +1,46 @@
+-- Where the search upward stops, and what filling both buffers leaves. Assumes nothing.
+use Prim.Native.Nat.{ℕ, _≤_}
+use mathlib.Core.Path.{_≡_}
+use mathlib.Core.Bool.{Bool, true, false}
+use mathlib.Core.List.{List}
+use lib.ListN.{length}
+use Rattle.theory.specs.Buffer.{over}
+use Rattle.theory.specs.Game.{Game, Legal}
+use Rattle.theory.specs.Rounds.{masks, finalRanks}
+use Rattle.theory.specs.Delay.{Verdict, wins, losing, arena, answer}
+use Rattle.sheet.specs.Checks.{nodesOf}
+use Rattle.sheet.specs.code.Arrays.{viewOf, bodiesGame}
+use Rattle.walk.specs.code.Levels.{Room}
+use Rattle.rounds.specs.code.Falling.{AtMost}
+use Rattle.solver.specs.Solving.{solvedDelay}
+use Rattle.solver.specs.declared.delays.Stop.{Stop}
+
+-- the verdict of a search that stopped at delay m
+unfoldable pub verdictBy : Bool → ℕ → Verdict
+verdictBy true m = wins
+verdictBy false m = losing m
+
+-- where the search upward stopped, and the ranks that it left
+pub record Stopped (G : Game) (d : ℕ) (before after : List ℕ) (r : Stop) : Type 0 where
+  pub verdict : verdictBy (r .wins) (r .delay) ≡ answer G d
+  pub delay : r .delay ≡ solvedDelay d (answer G d)
+  pub ranks : after ≡ over (finalRanks (arena G (r .delay))) before
+  pub rounds : AtMost (r .rounds) (finalRanks (arena G (r .delay)))
+
+-- the arrays hold a legal game whose numbers have room, and so do the ranks
+pub record Searchable (p : List ℕ) (g : List (List ℕ)) (u f : List ℕ) (start actions delay : ℕ) (ranks : List ℕ) : Type 0 where
+  pub room : Room (length p) actions delay
+  pub ranks-room : nodesOf (length p) actions delay ≤ length ranks
+  pub legal : Legal (viewOf p g u f start actions)
+
+-- bodies that the solver takes, and buffers with room for them
+pub record Fillable (p c u : List ℕ) (start actions delay : ℕ) (masks ranks : List ℕ) : Type 0 where
+  pub room : Room (length p) actions delay
+  pub legal : Legal (bodiesGame p c u start actions)
+  pub masks-room : nodesOf (length p) actions delay ≤ length masks
+  pub ranks-room : nodesOf (length p) actions delay ≤ length ranks
+
+-- the answer, and both buffers filled for the delay where the search stopped
+pub record Filled (G : Game) (d : ℕ) (masksBefore ranksBefore masksLeft ranksAfter : List ℕ) (r : Stop) : Type 0 where
+  pub stopped : Stopped G d ranksBefore ranksAfter r
+  pub masks : masksLeft ≡ over (masks (arena G (r .delay))) masksBefore
