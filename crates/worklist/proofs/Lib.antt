@@ -2,3 +2,5 @@
 pub mod BitLaws
 pub mod GoodLaws
 pub mod RoundLaws
+pub mod MarkLaws
+pub mod ChainLaws

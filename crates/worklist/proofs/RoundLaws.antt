@@ -12,7 +12,7 @@ use lib.ListN.{length, getD}
 use lib.Seq.{ext-getD}
 use Rattle.theory.specs.Fold.{both, allBelow, tabulate}
 use Rattle.theory.specs.Game.{Target, absent, to}
-use Rattle.theory.specs.Rounds.{Arena, bad, spoiltBy, fell, falls, rankIn, ranksAfter, finalRanks, kept, maskBelow, maskAt, masksBy, masks}
+use Rattle.theory.specs.Rounds.{Arena, bad, spoiltBy, fell, falls, rankIn, ranksAfter, finalRanks, keptBy, maskBelow, maskAt, masksBy, masks}
 use Rattle.theory.specs.Table.{bit}
 use Rattle.theory.proofs.Fold.{bool, not-both, below?, same-test, both-none, both-false, both-true, all-at, all-below, any-of-some, any-of-holds, length-tabulate, getD-tabulate}
 use Rattle.theory.proofs.Rounds.{fell-true, fell-false, fell-rank, stood-rank, in-fallen, in-fell, in-stands, length-after, rank-suc, rank-le, final-is}
@@ -211,7 +211,7 @@ module _ (E : Arena) (m lo hi : ℕ) (w : Work) (g : Good E (suc m) lo hi w) (al
             (bool (bit (maskOf w k) c))
 
     mask-is : (k : ℕ) → k < E .nodes → maskOf w k ≡ maskAt E old k
-    unfolding maskAt kept
+    unfolding maskAt keptBy
     mask-is k h =
         ⊎-elim
         (λ (r : E .right k ≡ true).

@@ -1,2 +1,3 @@
 -- The worklist over the nodes of one delay. Each file says what it defines.
 pub mod Work
+pub mod Chains

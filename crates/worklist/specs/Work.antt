@@ -1,11 +1,13 @@
 -- The worklist's state, and what it does with one node. While round n + 1 is worked, a bit goes out of a node's mask when its
 -- action is known to be spoilt, and a node falls when its last bit goes out. Assumes nothing.
-use Prim.Native.Nat.{ℕ, _+_, _-_, _^_}
+use Prim.Native.Nat.{ℕ, _+_, _-_, _^_, _≤_}
+use mathlib.Core.Path.{_≡_}
 use mathlib.Core.Bool.{Bool, cond}
 use mathlib.Core.List.{List, foldl}
 use lib.Dec.{eqb, ltb}
 use lib.ListN.{length, getD, set}
 use Rattle.theory.specs.Table.{bit}
+use Rattle.sheet.specs.Limits.{mostNodes}
 
 -- the two buffers, and the nodes that have fallen, in the order of their ranks: so many as tail says
 pub record Work : Type 0 where
@@ -16,6 +18,12 @@ pub record Work : Type 0 where
 
 abbrev pub work : List ℕ → List ℕ → List ℕ → ℕ → Work
 work ranks masks queue tail = record { ranks = ranks; masks = masks; queue = queue; tail = tail }
+
+-- the buffers are lent for the same nodes
+pub record Lent (ranks masks queue : List ℕ) : Type 0 where
+  pub ranks-size : length ranks ≡ length masks
+  pub queue-size : length queue ≡ length masks
+  pub few : length masks ≤ mostNodes
 
 -- node k falls in round n + 1. The queue has an entry for each node, so it has room
 unfoldable pub fallTo : ℕ → Work → ℕ → Work

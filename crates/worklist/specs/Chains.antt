@@ -1,0 +1,33 @@
+-- Reverse indices as chains. A key has the places 0, 1, .. below a count that have it; a chain leads from the last of them to
+-- the one before. A link is a place + 1, and 0 is the end. Assumes nothing.
+use Prim.Native.Nat.{ℕ, zero, suc, _≤_, _<_}
+use mathlib.Core.Path.{_≡_}
+use mathlib.Core.Bool.{cond}
+use mathlib.Core.List.{List, [], _∷_}
+use lib.Dec.{eqb}
+use lib.ListN.{getD}
+
+-- the link to the last place below n with key x
+unfoldable pub lastOf : (ℕ → ℕ) → ℕ → ℕ → ℕ
+lastOf key x zero = 0
+lastOf key x (suc n) = cond (eqb (key n) x) (suc n) (lastOf key x n)
+
+-- the places of a chain that starts with link e, at most so many
+unfoldable pub chainOf : List ℕ → ℕ → ℕ → List ℕ
+chainOf links zero e = []
+chainOf links (suc most) zero = []
+chainOf links (suc most) (suc i) = i ∷ chainOf links most (getD links i 0)
+
+-- links go down, so no chain is longer than its first link
+unfoldable pub chain : List ℕ → ℕ → List ℕ
+chain links e = chainOf links e e
+
+-- chains that end, over so many places
+pub record Chains (count : ℕ) (heads links : List ℕ) : Type 0 where
+  pub head : (x : ℕ) → getD heads x 0 ≤ count
+  pub link : (i : ℕ) → getD links i 0 ≤ i
+
+-- the chains of every key below keys
+pub record Indexed (key : ℕ → ℕ) (count keys : ℕ) (heads links : List ℕ) : Type 0 where
+  pub head : (x : ℕ) → x < keys → getD heads x 0 ≡ lastOf key x count
+  pub link : (i : ℕ) → i < count → getD links i 0 ≡ lastOf key (key i) i
