@@ -4,3 +4,4 @@ pub mod GoodLaws
 pub mod RoundLaws
 pub mod MarkLaws
 pub mod ChainLaws
+pub mod SpreadLaws

@@ -18,14 +18,18 @@ chainOf links zero e = []
 chainOf links (suc most) zero = []
 chainOf links (suc most) (suc i) = i ∷ chainOf links most (getD links i 0)
 
--- links go down, so no chain is longer than its first link
+-- where links go down, no chain is longer than its first link
 unfoldable pub chain : List ℕ → ℕ → List ℕ
 chain links e = chainOf links e e
 
--- chains that end, over so many places
+-- links go down
+pub record Down (links : List ℕ) : Type 0 where
+  pub link : (i : ℕ) → getD links i 0 ≤ i
+
+-- so chains end, over so many places
 pub record Chains (count : ℕ) (heads links : List ℕ) : Type 0 where
   pub head : (x : ℕ) → getD heads x 0 ≤ count
-  pub link : (i : ℕ) → getD links i 0 ≤ i
+  pub down : Down links
 
 -- the chains of every key below keys
 pub record Indexed (key : ℕ → ℕ) (count keys : ℕ) (heads links : List ℕ) : Type 0 where

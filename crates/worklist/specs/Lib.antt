@@ -1,3 +1,4 @@
 -- The worklist over the nodes of one delay. Each file says what it defines.
 pub mod Work
 pub mod Chains
+pub mod Spread
