@@ -7,9 +7,11 @@ use mathlib.Core.List.{List, [], _∷_, List·Memᴰ, List·Memᴰ·not-nil, Lis
 use native.Mathlib.Omega.{arith}
 use lib.Dec.{eqb}
 use lib.ListN.{getD}
-use borrow.Author.Tests.{eq-eqb, ne-eqb, eqb-true, eqb-false}
+use borrow.Author.Needs.{needs}
+use borrow.Author.Tests.{eq-eqb, ne-eqb, lt-ltb, le-ltb}
 use Rattle.theory.proofs.Fold.{bool, same?, below?}
-use Rattle.worklist.specs.Chains.{lastOf, chainOf, chain, Indexed}
+use Rattle.worklist.specs.Chains.{lastOf, chainOf, chain, headOf, Indexed}
+use Rattle.sheet.specs.Limits.{indexEntries}
 
 module _ (key : ℕ → ℕ) (x : ℕ) where
   pub last-here : (n : ℕ) → key n ≡ x → lastOf key x (suc n) ≡ suc n
@@ -55,8 +57,16 @@ pub chain-end : (links : List ℕ) → chain links 0 ≡ []
 unfolding chain chainOf
 chain-end links = refl
 
+pub head-in : (heads : List ℕ) (x : ℕ) → x < indexEntries → headOf heads x ≡ getD heads x 0
+unfolding headOf
+head-in heads x h = rw (lt-ltb x indexEntries h)
+
+pub head-out : (heads : List ℕ) (x : ℕ) → indexEntries ≤ x → headOf heads x ≡ 0
+unfolding headOf
+head-out heads x h = rw (le-ltb x indexEntries h)
+
 -- the places of an indexed chain, from the last one below b on
-module _ (key : ℕ → ℕ) (count keys : ℕ) (heads links : List ℕ) (ix : Indexed key count keys heads links) (down : (i : ℕ) → getD links i 0 ≤ i) where
+module _ (key : ℕ → ℕ) (count : ℕ) (heads links : List ℕ) (ix : Indexed key count heads links) (down : (i : ℕ) → getD links i 0 ≤ i) where
   next-link : (x b : ℕ) → key b ≡ x → b < count → getD links b 0 ≡ lastOf key x b
   next-link x b e h = ix .link b h ∙ ap (λ (y : ℕ). lastOf key y b) e
 
@@ -98,8 +108,16 @@ module _ (key : ℕ → ℕ) (count keys : ℕ) (heads links : List ℕ) (ix : I
       less : (i b : ℕ) → i < suc b → (i ≡ b → ⊥) → i < b
       less i b h d = ⊎-elim (λ (z : i < b). z) (λ (z : b ≤ i). let q : i ≡ b = omega arith in absurd (d q)) (below? i b)
 
-  pub chain-places : (x i : ℕ) → x < keys → List·Memᴰ i (chain links (getD heads x 0)) → (i < count) × (key i ≡ x)
-  chain-places x i h m = visits x count i (omega arith) (rw (ix .head x h) at m)
+  pub chain-places : (x i : ℕ) → x < indexEntries → List·Memᴰ i (chain links (headOf heads x)) → (i < count) × (key i ≡ x)
+  chain-places x i h m = visits x count i (omega arith) (rw (head-in heads x h, ix .head x h) at m)
 
-  pub chain-visits : (x i : ℕ) → x < keys → i < count → key i ≡ x → List·Memᴰ i (chain links (getD heads x 0))
-  chain-visits x i h l e = rw (ix .head x h) (visited x count i (omega arith) l e)
+  pub chain-visits : (x i : ℕ) → x < indexEntries → i < count → key i ≡ x → List·Memᴰ i (chain links (headOf heads x))
+  chain-visits x i h l e = rw (head-in heads x h, ix .head x h) (visited x count i (omega arith) l e)
+
+pub head-read : (heads : List ℕ) (x : ℕ) {r b : ℕ} → r ≡ b → b ≡ getD heads x 0 → x < 257 → r ≡ headOf heads x
+head-read heads x e f h = e ∙ f ∙ sym (head-in heads x h)
+
+pub head-read-out : (heads : List ℕ) (x : ℕ) → 257 ≤ x → 0 ≡ headOf heads x
+head-read-out heads x h = sym (head-out heads x h)
+
+pub ruleset heading = (needs, head-read, head-read-out)

@@ -11,8 +11,8 @@ use lib.ListN.{length, getD}
 use borrow.Author.Needs.{needs}
 use Rattle.worklist.specs.declared.spread.Spot.{Spot}
 use Rattle.worklist.specs.Work.{Work, work, Lent, markTo, marksTo}
-use Rattle.worklist.specs.Chains.{chain, Down}
-use Rattle.worklist.specs.Spread.{Spotted, callerAt, callers, sourceAt, sources, gather, evenNodes, oddNodes}
+use Rattle.worklist.specs.Chains.{chain, headOf, Down}
+use Rattle.worklist.specs.Spread.{Spotted, callerAt, wordAt, callers, sourceAt, sources, gather, evenNodes, oddNodes}
 use Rattle.worklist.proofs.ChainLaws.{chain-next, chain-end}
 
 -- a chain that is not at its end
@@ -50,6 +50,27 @@ module _ (s : Spot) (small : Spotted s) where
     unfolding callerAt
     caller-is = refl
 
+  -- the word of a cell
+  module _ (x : ℕ) where
+    pub action-fits : Fits w64 (x % 8 * s .younger)
+    action-fits = let r = small-product (x % 8) (s .younger) (omega arith) (small .few-younger) in record { fits = omega arith }
+
+    pub whole-fits : Fits w64 (x % 8 * s .younger + s .rest)
+    whole-fits =
+        let r = small-product (x % 8) (s .younger) (omega arith) (small .few-younger) in
+        let t = small .few-rest in
+        record { fits = omega arith }
+
+    pub word-is : x % 8 * s .younger + s .rest ≡ wordAt s x
+    unfolding wordAt
+    word-is = refl
+
+    pub word-small : x % 8 * s .younger + s .rest < 1048576
+    word-small =
+        let r : (x % 8) * s .younger ≤ 7 * 16384 = mul-le-mul (let z : x % 8 ≤ 7 = omega arith in z) (small .few-younger) in
+        let t = small .few-rest in
+        omega arith
+
   pub from-fits : {a b : ℕ} → a ≡ b → b < 256 → Fits w64 (a * s .words)
   from-fits {a} e h = let r = small-product a (s .words) (omega arith) (small .few-words) in record { fits = omega arith }
 
@@ -59,6 +80,8 @@ module _ (s : Spot) (small : Spotted s) where
   pub source-is : (u : List ℕ) (word i : ℕ) {a b : ℕ} → a ≡ b → b ≡ getD u (2 * i) 0 → a * s .words + word ≡ sourceAt u s word i
   unfolding sourceAt
   source-is u word i e f = ap (λ x. x * s .words + word) (e ∙ f)
+
+pub ruleset wording = (needs, action-fits, whole-fits, word-is, word-small)
 
 pub ruleset placing = (needs, position-fits, oldest-fits, word-fits, caller-fits, caller-is, from-fits, source-fits, source-is)
 
@@ -120,3 +143,28 @@ module _ (f : ℕ → List ℕ) (links : List ℕ) (down : Down links) (n c : �
   pub gather-end : (e : ℕ) (w : Work) → e ≡ 0 → marksTo n c w (gather f (chain links e)) ≡ w
   unfolding gather
   gather-end e w z = ap (λ x. marksTo n c w (gather f (chain links x))) z ∙ ap (λ x. marksTo n c w (gather f x)) (chain-end links) ∙ marks-end n c w
+
+module _ (u lines heads cells : List ℕ) (s : Spot) (n c : ℕ) where
+  pub even-again : Down lines → (e : ℕ) (w : Work) {b v : Work} {h t f l : ℕ} → b ≡ marksTo n c w (evenNodes u lines heads cells s e) → (e ≡ 0 → ⊥)
+      → f ≡ getD u (2 * (e - 1)) 0 → t ≡ f → h ≡ headOf heads t → v ≡ marksTo n c w (callers cells s h) → l ≡ getD lines (e - 1) 0
+      → b ≡ marksTo n c v (evenNodes u lines heads cells s l)
+  unfolding evenNodes
+  even-again down e w q z i j k r t =
+      q ∙ gather-next (λ i. callers cells s (headOf heads (getD u (2 * i) 0))) lines down n c e w z
+      (r ∙ ap (λ x. marksTo n c w (callers cells s x)) (k ∙ ap (headOf heads) (j ∙ i))) t
+
+  pub even-end : Down lines → (e : ℕ) (w : Work) → e ≡ 0 → marksTo n c w (evenNodes u lines heads cells s e) ≡ w
+  unfolding evenNodes
+  even-end down e w z = gather-end (λ i. callers cells s (headOf heads (getD u (2 * i) 0))) lines down n c e w z
+
+  pub odd-again : Down cells → (e : ℕ) (w : Work) {b v : Work} {h t l : ℕ} → b ≡ marksTo n c w (oddNodes u lines heads cells s e) → (e ≡ 0 → ⊥)
+      → t ≡ wordAt s (e - 1) → h ≡ headOf heads ((e - 1) / 8) → v ≡ marksTo n c w (sources u lines s t h) → l ≡ getD cells (e - 1) 0
+      → b ≡ marksTo n c v (oddNodes u lines heads cells s l)
+  unfolding oddNodes
+  odd-again down e w {b} {v} {h} {t} q z j k r y =
+      q ∙ gather-next (λ x. sources u lines s (wordAt s x) (headOf heads (x / 8))) cells down n c e w z
+      (r ∙ ap (λ x. marksTo n c w (sources u lines s x h)) j ∙ ap (λ x. marksTo n c w (sources u lines s (wordAt s (e - 1)) x)) k) y
+
+  pub odd-end : Down cells → (e : ℕ) (w : Work) → e ≡ 0 → marksTo n c w (oddNodes u lines heads cells s e) ≡ w
+  unfolding oddNodes
+  odd-end down e w z = gather-end (λ x. sources u lines s (wordAt s x) (headOf heads (x / 8))) cells down n c e w z

@@ -4,8 +4,9 @@ use Prim.Native.Nat.{ℕ, zero, suc, _≤_, _<_}
 use mathlib.Core.Path.{_≡_}
 use mathlib.Core.Bool.{cond}
 use mathlib.Core.List.{List, [], _∷_}
-use lib.Dec.{eqb}
+use lib.Dec.{eqb, ltb}
 use lib.ListN.{getD}
+use Rattle.sheet.specs.Limits.{indexEntries}
 
 -- the link to the last place below n with key x
 unfoldable pub lastOf : (ℕ → ℕ) → ℕ → ℕ → ℕ
@@ -22,16 +23,20 @@ chainOf links (suc most) (suc i) = i ∷ chainOf links most (getD links i 0)
 unfoldable pub chain : List ℕ → ℕ → List ℕ
 chain links e = chainOf links e e
 
+-- the first link of a key's chain; there is none for keys above those that there can be
+unfoldable pub headOf : List ℕ → ℕ → ℕ
+headOf heads x = cond (ltb x indexEntries) (getD heads x 0) 0
+
 -- links go down
 pub record Down (links : List ℕ) : Type 0 where
   pub link : (i : ℕ) → getD links i 0 ≤ i
 
 -- so chains end, over so many places
 pub record Chains (count : ℕ) (heads links : List ℕ) : Type 0 where
-  pub head : (x : ℕ) → getD heads x 0 ≤ count
+  pub head : (x : ℕ) → headOf heads x ≤ count
   pub down : Down links
 
--- the chains of every key below keys
-pub record Indexed (key : ℕ → ℕ) (count keys : ℕ) (heads links : List ℕ) : Type 0 where
-  pub head : (x : ℕ) → x < keys → getD heads x 0 ≡ lastOf key x count
+-- the chains of every key
+pub record Indexed (key : ℕ → ℕ) (count : ℕ) (heads links : List ℕ) : Type 0 where
+  pub head : (x : ℕ) → x < indexEntries → getD heads x 0 ≡ lastOf key x count
   pub link : (i : ℕ) → i < count → getD links i 0 ≡ lastOf key (key i) i

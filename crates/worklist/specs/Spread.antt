@@ -4,7 +4,7 @@ use mathlib.Core.List.{List, [], _∷_, _++_, map}
 use lib.ListN.{getD}
 use Rattle.sheet.specs.Limits.{mostActions, mostNodes}
 use Rattle.worklist.specs.declared.spread.Spot.{Spot}
-use Rattle.worklist.specs.Chains.{chain}
+use Rattle.worklist.specs.Chains.{chain, headOf}
 
 -- the numbers of a spot are small
 pub record Spotted (s : Spot) : Type 0 where
@@ -17,6 +17,10 @@ pub record Spotted (s : Spot) : Type 0 where
 -- the node of a cell's position, whose oldest action is the cell's
 unfoldable pub callerAt : Spot → ℕ → ℕ
 callerAt s x = (x / mostActions) * s .words + (x % mostActions) * s .younger + s .rest
+
+-- the word with a cell's action as its oldest
+unfoldable pub wordAt : Spot → ℕ → ℕ
+wordAt s x = (x % mostActions) * s .younger + s .rest
 
 unfoldable pub callers : List ℕ → Spot → ℕ → List ℕ
 callers cells s e = map (callerAt s) (chain cells e)
@@ -34,9 +38,9 @@ gather f (x ∷ xs) = f x ++ gather f xs
 
 -- even delays: a caller's oldest action leads to a position, and a move from there to the fallen node's position
 unfoldable pub evenNodes : List ℕ → List ℕ → List ℕ → List ℕ → Spot → ℕ → List ℕ
-evenNodes u lines heads cells s e = gather (λ i. callers cells s (getD heads (getD u (2 * i) 0) 0)) (chain lines e)
+evenNodes u lines heads cells s e = gather (λ i. callers cells s (headOf heads (getD u (2 * i) 0))) (chain lines e)
 
 -- odd delays: a move leads to a position, and the oldest action from there to the fallen node's position
 unfoldable pub oddNodes : List ℕ → List ℕ → List ℕ → List ℕ → Spot → ℕ → List ℕ
 oddNodes u lines heads cells s e =
-    gather (λ x. sources u lines s ((x % mostActions) * s .younger + s .rest) (getD heads (x / mostActions) 0)) (chain cells e)
+    gather (λ x. sources u lines s (wordAt s x) (headOf heads (x / mostActions))) (chain cells e)

@@ -10,8 +10,8 @@ use sheet::limits::ROW;
 ghost use mathlib.Core.Path.{_≡_};
 ghost use Prim.Native.Nat.{_≤_, _<_};
 ghost use Rattle.worklist.specs.Work.{work, Lent, marksTo};
-ghost use Rattle.worklist.specs.Chains.{Chains, Down};
-ghost use Rattle.worklist.specs.Spread.{Spotted, callerAt, callers, sourceAt, sources, evenNodes, oddNodes};
+ghost use Rattle.worklist.specs.Chains.{headOf, Chains, Down};
+ghost use Rattle.worklist.specs.Spread.{Spotted, callerAt, wordAt, callers, sourceAt, sources, evenNodes, oddNodes};
 
 // The cells of the grid.
 pub const CELLS: usize = 2048;
@@ -40,6 +40,24 @@ fn source_at(u: &[u8], spot: Spot, word: usize, i: usize) -> usize
     ensures { λ r. ⌜ r ≡ sourceAt (now (u .entry)) spot word i ⌝ }
 {
     wide(byte(u, 2 * i)) * spot.words + word
+}
+
+// The word with a cell's action as its oldest.
+fn word_at(spot: Spot, x: usize) -> usize
+    requires { ⌜ Spotted spot ⌝ }
+    ensures { λ r. ⌜ (r ≡ wordAt spot x) × (r < 1048576) ⌝ }
+{
+    x % ROW * spot.younger + spot.rest
+}
+
+// The first link of a key's chain; there is none for other keys.
+fn head(heads: &[u16; INDEX], x: usize) -> usize
+    ensures { λ r. ⌜ r ≡ headOf (now (heads .entry)) x ⌝ }
+{
+    if INDEX <= x {
+        return 0;
+    }
+    wide16(heads[x])
 }
 
 // At the nodes whose oldest action, played at their position, leads to the target of this chain of cells.
@@ -94,6 +112,75 @@ fn mark_sources(
         let k = source_at(u, spot, word, i);
         end = mark(ranks, masks, queue, spot.n, spot.action, k, end);
         e = wide16(lines[i]);
+    }
+    end
+}
+
+// Even delays: a caller's action leads to a position from where a move leads to the fallen node's.
+fn spread_even(
+    u: &[u8],
+    lines: &[u16; MOST_MOVES],
+    heads: &[u16; INDEX],
+    cells: &[u16; CELLS],
+    ranks: &mut [u16],
+    masks: &mut [u8],
+    queue: &mut [u16],
+    spot: Spot,
+    first: usize,
+    tail: usize,
+) -> usize
+    requires { ⌜ (Lent (now ranks) (now masks) (now queue)) × (Spotted spot) × (Chains 2048 (now heads) (now cells)) × (Down (now lines)) × (first ≤ 4096) ⌝ }
+    ensures { λ r.
+        ⌜ work (now (ranks .exit)) (now (masks .exit)) (now (queue .exit)) r
+        ≡ marksTo (spot .n) (spot .action) (work (now (ranks .entry)) (now (masks .entry)) (now (queue .entry)) tail)
+        (evenNodes (now (u .entry)) (now (lines .entry)) (now (heads .entry)) (now (cells .entry)) spot first) ⌝ }
+{
+    let mut e = first;
+    let mut end = tail;
+    while e != 0 {
+        let i = e - 1;
+        let t = wide(byte(u, 2 * i));
+        end = mark_callers(cells, ranks, masks, queue, spot, head(heads, t), end);
+        e = wide16(lines[i]);
+    }
+    end
+}
+
+// Odd delays: a move leads to a position from where the oldest action leads to the fallen node's.
+fn spread_odd(
+    u: &[u8],
+    lines: &[u16; MOST_MOVES],
+    heads: &[u16; INDEX],
+    cells: &[u16; CELLS],
+    ranks: &mut [u16],
+    masks: &mut [u8],
+    queue: &mut [u16],
+    spot: Spot,
+    first: usize,
+    tail: usize,
+) -> usize
+    requires { ⌜ (Lent (now ranks) (now masks) (now queue)) × (Spotted spot) × (Chains 4096 (now heads) (now lines)) × (Down (now cells)) × (first ≤ 2048) ⌝ }
+    ensures { λ r.
+        ⌜ work (now (ranks .exit)) (now (masks .exit)) (now (queue .exit)) r
+        ≡ marksTo (spot .n) (spot .action) (work (now (ranks .entry)) (now (masks .entry)) (now (queue .entry)) tail)
+        (oddNodes (now (u .entry)) (now (lines .entry)) (now (heads .entry)) (now (cells .entry)) spot first) ⌝ }
+{
+    let mut e = first;
+    let mut end = tail;
+    while e != 0 {
+        let x = e - 1;
+        end = mark_sources(
+            u,
+            lines,
+            ranks,
+            masks,
+            queue,
+            spot,
+            word_at(spot, x),
+            head(heads, x / ROW),
+            end,
+        );
+        e = wide16(cells[x]);
     }
     end
 }
