@@ -5,3 +5,4 @@ pub mod RoundLaws
 pub mod MarkLaws
 pub mod ChainLaws
 pub mod SpreadLaws
+pub mod SweepLaws

@@ -2,3 +2,4 @@
 pub mod Work
 pub mod Chains
 pub mod Spread
+pub mod Sweep

@@ -1,3 +1,4 @@
 // The rounds by a worklist: each node that falls takes its action's bit from the masks of the nodes before it.
 pub mod mark; // one action of one node
 pub mod spread; // the nodes before a fallen one
+pub mod sweep; // the nodes of one rank

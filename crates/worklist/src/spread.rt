@@ -51,7 +51,7 @@ fn word_at(spot: Spot, x: usize) -> usize
 }
 
 // The first link of a key's chain; there is none for other keys.
-fn head(heads: &[u16; INDEX], x: usize) -> usize
+pub(crate) fn head(heads: &[u16; INDEX], x: usize) -> usize
     ensures { λ r. ⌜ r ≡ headOf (now (heads .entry)) x ⌝ }
 {
     if INDEX <= x {
@@ -117,7 +117,7 @@ fn mark_sources(
 }
 
 // Even delays: a caller's action leads to a position from where a move leads to the fallen node's.
-fn spread_even(
+pub(crate) fn spread_even(
     u: &[u8],
     lines: &[u16; MOST_MOVES],
     heads: &[u16; INDEX],
@@ -147,7 +147,7 @@ fn spread_even(
 }
 
 // Odd delays: a move leads to a position from where the oldest action leads to the fallen node's.
-fn spread_odd(
+pub(crate) fn spread_odd(
     u: &[u8],
     lines: &[u16; MOST_MOVES],
     heads: &[u16; INDEX],
