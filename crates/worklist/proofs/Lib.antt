@@ -6,3 +6,4 @@ pub mod MarkLaws
 pub mod ChainLaws
 pub mod SpreadLaws
 pub mod SweepLaws
+pub mod BeforeLaws

@@ -2,13 +2,14 @@
 use Prim.Native.Nat.{ℕ, zero, suc, _+_, _*_, _/_, _%_, _≤_, _<_}
 use mathlib.Core.Path.{_≡_}
 use mathlib.Core.Bool.{Bool, true, false}
-use mathlib.Core.List.{List}
+use mathlib.Core.List.{List, List·Memᴰ}
 use lib.ListN.{getD}
+use Rattle.theory.specs.Game.{to, Game}
 use Rattle.sheet.specs.Limits.{mostActions, mostNodes}
 use Rattle.walk.specs.declared.level.Level.{Level}
 use Rattle.worklist.specs.declared.spread.Spot.{Spot}
 use Rattle.worklist.specs.Work.{Work, marksTo}
-use Rattle.worklist.specs.Chains.{headOf}
+use Rattle.worklist.specs.Chains.{headOf, chain}
 use Rattle.worklist.specs.Spread.{evenNodes, oddNodes}
 
 -- the U body, and the chains of its lines and of the grid's cells
@@ -54,3 +55,14 @@ spreadTo x l younger n w j =
 unfoldable pub sweepTo : Index → Level → ℕ → ℕ → Work → ℕ → ℕ → Work
 sweepTo x l younger n w at zero = w
 sweepTo x l younger n w at (suc count) = sweepTo x l younger n (spreadTo x l younger n w (getD (w .queue) at 0)) (at + 1) count
+
+-- the chains are those of a game: of the moves to each position, and of the actions that lead to it
+pub record Reverses (G : Game) (x : Index) : Type 0 where
+  pub move : (q r i : ℕ) → List·Memᴰ i (chain (x .lines) (headOf (x .reaching) r)) → getD (x .moves) (2 * i) 0 ≡ q → r < G .positions
+      → List·Memᴰ r (G .moves q)
+  pub line : (q r : ℕ) → List·Memᴰ r (G .moves q)
+      → (i : ℕ) × List·Memᴰ i (chain (x .lines) (headOf (x .reaching) r)) × (getD (x .moves) (2 * i) 0 ≡ q)
+  pub target : (t c : ℕ) → List·Memᴰ c (chain (x .cells) (headOf (x .leading) t)) → t < G .positions
+      → G .target (c / mostActions) (c % mostActions) ≡ to t
+  pub cell : (q h t : ℕ) → G .target q h ≡ to t
+      → (c : ℕ) × List·Memᴰ c (chain (x .cells) (headOf (x .leading) t)) × (c / mostActions ≡ q) × (c % mostActions ≡ h)
