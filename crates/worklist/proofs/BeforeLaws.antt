@@ -211,7 +211,7 @@ module _ (G : Game) (m younger : ℕ) (some : 0 < G .actions) (someY : 0 < young
       again : fallen ((j / m) * m + (rest * A + last)) ≡ true
       again = rw whole-node f
 
-      even-sound : (k : ℕ) → List·Memᴰ k (nodesBefore false x spot (j / m)) → spoiltBy (arenaBy false G m) fallen k last ≡ true
+      pub even-sound : (k : ℕ) → List·Memᴰ k (nodesBefore false x spot (j / m)) → spoiltBy (arenaBy false G m) fallen k last ≡ true
       unfolding nodesBefore evenNodes callers callerAt
       even-sound k i =
           let a = gathered-from _ (chain (x .lines) (headOf (x .reaching) (j / m))) i in
@@ -223,7 +223,7 @@ module _ (G : Game) (m younger : ℕ) (some : 0 < G .actions) (someY : 0 < young
           let q : (b .0 / 8) * m + ((b .0 % 8) * younger + rest) ≡ k = (let z = b .2 in omega arith) in
           rw q at (even-spoils (b .0 / 8) (b .0 % 8) rest last (g .action) rest-less last-below fallen t (j / m) e o again)
 
-      odd-sound : (k : ℕ) → List·Memᴰ k (nodesBefore true x spot (j / m)) → spoiltBy (arenaBy true G m) fallen k last ≡ true
+      pub odd-sound : (k : ℕ) → List·Memᴰ k (nodesBefore true x spot (j / m)) → spoiltBy (arenaBy true G m) fallen k last ≡ true
       unfolding nodesBefore oddNodes sources sourceAt wordAt
       odd-sound k i =
           let a = gathered-from _ (chain (x .cells) (headOf (x .leading) (j / m))) i in
@@ -272,7 +272,7 @@ module _ (G : Game) (m younger : ℕ) (some : 0 < G .actions) (someY : 0 < young
         at-rest : rest ≡ young
         at-rest = ap (λ (y : ℕ). y / A) at-word ∙ digits-div young a
 
-      even-cover : List·Memᴰ (to j) (step false G m k c) → (c ≡ last) × List·Memᴰ k (nodesBefore false x spot (j / m))
+      pub even-cover : List·Memᴰ (to j) (step false G m k c) → (c ≡ last) × List·Memᴰ k (nodesBefore false x spot (j / m))
       unfolding nodesBefore evenNodes callers callerAt
       even-cover i =
           let z = even-comes place oldest young c old-below young-below a j (rw parts at i) in
@@ -289,7 +289,7 @@ module _ (G : Game) (m younger : ℕ) (some : 0 < G .actions) (someY : 0 < young
             rw p (gathered _ (chain (x .lines) (headOf (x .reaching) r)) (line .1) (rw (line .2) here)),
           )
 
-      odd-cover : List·Memᴰ (to j) (step true G m k c) → (c ≡ last) × List·Memᴰ k (nodesBefore true x spot (j / m))
+      pub odd-cover : List·Memᴰ (to j) (step true G m k c) → (c ≡ last) × List·Memᴰ k (nodesBefore true x spot (j / m))
       unfolding nodesBefore oddNodes sources sourceAt wordAt
       odd-cover i =
           let z = odd-comes place oldest young c old-below young-below a j (rw parts at i) in

@@ -7,3 +7,4 @@ pub mod ChainLaws
 pub mod SpreadLaws
 pub mod SweepLaws
 pub mod BeforeLaws
+pub mod ReadyLaws
