@@ -8,3 +8,4 @@ pub mod SpreadLaws
 pub mod SweepLaws
 pub mod BeforeLaws
 pub mod ReadyLaws
+pub mod FirstLaws

@@ -3,3 +3,4 @@ pub mod Work
 pub mod Chains
 pub mod Spread
 pub mod Sweep
+pub mod First

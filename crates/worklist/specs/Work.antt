@@ -1,6 +1,6 @@
 -- The worklist's state, and what it does with one node. While round n + 1 is worked, a bit goes out of a node's mask when its
 -- action is known to be spoilt, and a node falls when its last bit goes out. Assumes nothing.
-use Prim.Native.Nat.{ℕ, _+_, _-_, _^_, _≤_}
+use Prim.Native.Nat.{ℕ, zero, suc, _+_, _-_, _^_, _≤_}
 use mathlib.Core.Path.{_≡_}
 use mathlib.Core.Bool.{Bool, cond}
 use mathlib.Core.List.{List, foldl}
@@ -48,3 +48,8 @@ marksTo n c w ks = foldl (markTo n c) w ks
 -- every action is spoilt at node k
 unfoldable pub strikeTo : ℕ → Work → ℕ → Work
 strikeTo n w k = cond (eqb (getD (w .masks) k 0) 0) w (fallTo n w k)
+
+-- at so many nodes, from k on
+unfoldable pub strikesTo : ℕ → Work → ℕ → ℕ → Work
+strikesTo n w k zero = w
+strikesTo n w k (suc count) = strikesTo n (strikeTo n w k) (k + 1) count

@@ -3,7 +3,7 @@ use sheet::form::byte;
 ghost use mathlib.Core.Path.{_≡_};
 ghost use Prim.Native.Nat.{_≤_, _<_};
 ghost use lib.ListN.{length};
-ghost use Rattle.worklist.specs.Work.{work, Lent, fallTo, markTo};
+ghost use Rattle.worklist.specs.Work.{work, Lent, fallTo, markTo, strikeTo};
 
 // Node k falls in round n + 1. As many nodes as the queue has entries have fallen where it is full: then none is left.
 fn fall(
@@ -53,4 +53,24 @@ pub(crate) fn mark(
     }
     masks[k] = rest;
     tail
+}
+
+// Every action is spoilt at node k.
+pub(crate) fn strike(
+    ranks: &mut [u16],
+    masks: &mut [u8],
+    queue: &mut [u16],
+    n: u16,
+    k: usize,
+    tail: usize,
+) -> usize
+    requires { ⌜ (Lent (now ranks) (now masks) (now queue)) × (n < 65535) ⌝ }
+    ensures { λ r.
+        ⌜ work (now (ranks .exit)) (now (masks .exit)) (now (queue .exit)) r
+        ≡ strikeTo n (work (now (ranks .entry)) (now (masks .entry)) (now (queue .entry)) tail) k ⌝ }
+{
+    if byte(masks, k) == 0 {
+        return tail;
+    }
+    fall(ranks, masks, queue, n, k, tail)
 }
