@@ -9,3 +9,4 @@ pub mod SweepLaws
 pub mod BeforeLaws
 pub mod ReadyLaws
 pub mod FirstLaws
+pub mod StartLaws
