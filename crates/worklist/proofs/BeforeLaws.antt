@@ -48,7 +48,7 @@ bad-to : (fallen : ℕ → Bool) (j : ℕ) → fallen j ≡ true → bad fallen 
 unfolding bad
 bad-to fallen j e = e
 
-bad-absent : (fallen : ℕ → Bool) → bad fallen absent ≡ true
+pub bad-absent : (fallen : ℕ → Bool) → bad fallen absent ≡ true
 unfolding bad
 bad-absent fallen = refl
 
@@ -114,7 +114,7 @@ module _ (G : Game) (m younger : ℕ) (some : 0 < G .actions) (someY : 0 < young
   joined h y c = rw whole (omega (arith, add-mul (h * younger) y A, mul-assoc h younger A))
 
   -- the step at a node by its parts
-  step-at : (odd : Bool) (q h y c : ℕ) → h < A → y < younger
+  pub step-at : (odd : Bool) (q h y c : ℕ) → h < A → y < younger
       → step odd G m (q * m + (h * younger + y)) c ≡ outcomes odd G m q (h * m + (y * A + c))
   unfolding step
   step-at odd q h y c a b =

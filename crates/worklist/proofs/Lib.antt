@@ -10,3 +10,4 @@ pub mod BeforeLaws
 pub mod ReadyLaws
 pub mod FirstLaws
 pub mod StartLaws
+pub mod BlockLaws

@@ -31,7 +31,7 @@ full-bit : (n c : ℕ) → c < n → bit (2 ^ n - 1) c ≡ true
 full-bit n c h = ap (λ (x : ℕ). bit x c) (sym (full-mask n)) ∙ mask-bit (λ d. true) n c h
 
 -- a node's rank after round 1
-first-rank : (E : Arena) (k : ℕ) → k < E .nodes → getD (ranksAfter E 1) k 0 ≡ cond (both (E .right k) (not (E .safe k))) 1 0
+pub first-rank : (E : Arena) (k : ℕ) → k < E .nodes → getD (ranksAfter E 1) k 0 ≡ cond (both (E .right k) (not (E .safe k))) 1 0
 unfolding rankIn falls
 first-rank E k h = rank-suc E 0 k h ∙ rw (fell-false (ranksAfter E 0) k (rank-zero E k))
 

@@ -4,3 +4,4 @@ pub mod Chains
 pub mod Spread
 pub mod Sweep
 pub mod First
+pub mod Block
