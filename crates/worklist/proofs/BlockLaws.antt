@@ -18,7 +18,7 @@ use Rattle.theory.proofs.Fold.{bool, not-both, same?, below?, same-test, both-t
 use Rattle.theory.proofs.Turns.{to-injective, absent-not-to, played-move, played-absent}
 use Rattle.theory.proofs.Masks.{zero-bit}
 use Rattle.worklist.specs.Work.{Work, strikeTo, strikesTo}
-use Rattle.worklist.specs.Block.{blockedAt, noWay}
+use Rattle.worklist.specs.Block.{blockedAt, noWay, blockTo, blocksTo}
 use Rattle.worklist.proofs.GoodLaws.{rankOf, maskOf, Fresh, Good, Went, Goes, goes-none, goes-on, strike-goes}
 use Rattle.worklist.proofs.RoundLaws.{Marked}
 use Rattle.worklist.proofs.BeforeLaws.{step-at, bad-absent, played-unsafe, rest-below}
@@ -68,7 +68,7 @@ none-bad : (j : ℕ) → bad (λ i. false) (to j) ≡ false
 unfolding bad
 none-bad j = refl
 
-played-none : (G : Game) (m v : ℕ) (o : Target) → anyOf (bad (λ j. false)) (playedTo G m v o) ≡ noWay (G .safe) o
+pub played-none : (G : Game) (m v : ℕ) (o : Target) → anyOf (bad (λ j. false)) (playedTo G m v o) ≡ noWay (G .safe) o
 unfolding playedTo noWay
 played-none G m v absent = any-of-holds (bad (λ j. false)) (List·Memᴰ·head refl) (bad-absent (λ j. false))
 played-none G m v (to t) =
@@ -145,11 +145,15 @@ module _ (G : Game) (odd : Bool) (m younger : ℕ) (some : 0 < G .actions) (some
         word-lt : (b % A) * younger + y < m
         word-lt = let q = whole ∙ mul-comm younger A in rw q (digits-lt oldest-lt l)
 
-    row-step : (c : ℕ) → step odd G m (b * younger + y) c ≡ outcomes odd G m (b / A) ((b % A) * m + (y * A + c))
+    pub row-step : (c : ℕ) → step odd G m (b * younger + y) c ≡ outcomes odd G m (b / A) ((b % A) * m + (y * A + c))
     row-step c =
         ap (λ (x : ℕ). step odd G m x c) (row-parts b y) ∙ step-at G m younger some someY whole odd (b / A) (b % A) y c oldest-lt l
 
-  first-node : (b : ℕ) → b * younger + 0 ≡ b * younger
+  pub even-outcomes : (q h : ℕ) → outcomes false G m q (h * m + (0 * A + 0)) ≡ playedTo G m (0 * A + 0) (G .target q h)
+  unfolding outcomes
+  even-outcomes q h = let l = rest-below A younger m some someY whole 0 0 someY some in rw (digits-div h l, digits-mod h l)
+
+  pub first-node : (b : ℕ) → b * younger + 0 ≡ b * younger
   first-node b = omega arith
 
   row-absent : (b y c z d : ℕ) → y < younger → c < A → z < younger → d < A
@@ -252,7 +256,7 @@ module _ (G : Game) (odd : Bool) (m younger : ℕ) (some : 0 < G .actions) (some
                 (below? (k / younger) b);
           })
 
-  pub rows-all : (b : ℕ) (w : Work) → G .positions * A ≤ b → RowsMarked b w → Marked E w absent
+  rows-all : (b : ℕ) (w : Work) → G .positions * A ≤ b → RowsMarked b w → Marked E w absent
   rows-all b w h rows =
       record {
         out = λ k c l a r i.
@@ -262,3 +266,24 @@ module _ (G : Game) (odd : Bool) (m younger : ℕ) (some : 0 < G .actions) (some
             let t : k / younger < G .positions * A = div-lt-iff-lt-mul someY .1 s in
             rows .out k c l (omega arith) a r i;
       }
+
+  blocks-goes : (hi count b : ℕ) (w : Work) → Good E 1 0 hi w → RowsMarked b w
+      → Good E 1 0 hi (blocksTo E younger w b count) × RowsMarked (b + count) (blocksTo E younger w b count)
+  unfolding blocksTo blockTo
+  blocks-goes hi zero b w g r = let e : b + 0 ≡ b = omega arith in (g, rw e r)
+  blocks-goes hi (suc count) b w g r =
+      let e : b + 1 + count ≡ b + suc count = omega arith in
+      ⊎-elim
+      (λ (t : blockedAt E (b * younger) ≡ true).
+      rw (t, ← e)
+      (blocks-goes hi count (b + 1) (strikesTo 1 w (b * younger) younger) (rows-good hi b w g r refl t refl) (rows-strike hi b w g r refl t refl)))
+      (λ (t : blockedAt E (b * younger) ≡ false).
+      rw (t, ← e) (blocks-goes hi count (b + 1) w g (rows-pass hi b w g r refl t)))
+      (bool (blockedAt E (b * younger)))
+
+  -- all rows: the state is still good, and absent outcomes are marked
+  pub blocks-good : (hi : ℕ) (w : Work) → Good E 1 0 hi w → Good E 1 0 hi (blocksTo E younger w 0 (G .positions * A))
+  blocks-good hi w g = blocks-goes hi (G .positions * A) 0 w g (rows-none w) .0
+
+  pub blocks-marked : (hi : ℕ) (w : Work) → Good E 1 0 hi w → Marked E (blocksTo E younger w 0 (G .positions * A)) absent
+  blocks-marked hi w g = rows-all (0 + G .positions * A) _ (omega arith) (blocks-goes hi (G .positions * A) 0 w g (rows-none w) .1)

@@ -11,3 +11,5 @@ pub mod ReadyLaws
 pub mod FirstLaws
 pub mod StartLaws
 pub mod BlockLaws
+pub mod BlockCode
+pub mod WorkLaws

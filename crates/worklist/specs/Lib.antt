@@ -5,3 +5,4 @@ pub mod Spread
 pub mod Sweep
 pub mod First
 pub mod Block
+pub mod Level

@@ -4,3 +4,4 @@ pub mod spread; // the nodes before a fallen one
 pub mod sweep; // the nodes of one rank
 pub mod first; // round 1
 pub mod block; // round 2, where no action can be played
+pub mod level; // all rounds at one delay

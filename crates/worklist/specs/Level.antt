@@ -1,0 +1,28 @@
+-- What a level needs to be solved by the worklist, and what is left then. Assumes nothing.
+use Prim.Native.Nat.{ℕ, _≤_}
+use mathlib.Core.Path.{_≡_}
+use mathlib.Core.List.{List}
+use lib.ListN.{length, getD}
+use Rattle.theory.specs.Game.{Legal}
+use Rattle.theory.specs.Rounds.{Arena, finalRanks, masks}
+use Rattle.sheet.specs.Limits.{mostMoves}
+use Rattle.sheet.specs.code.Arrays.{viewOf}
+use Rattle.walk.specs.declared.level.Level.{Level}
+use Rattle.walk.specs.code.Nodes.{Sized}
+use Rattle.worklist.specs.Chains.{Chains}
+use Rattle.worklist.specs.Sweep.{index, Fitted, Reverses}
+
+-- the arrays hold a legal game, the chains are its own, and a word has an oldest action
+pub record Workable (p : List ℕ) (g : List (List ℕ)) (u f reaching lines leading cells : List ℕ) (l : Level) (younger : ℕ) : Type 0 where
+  pub sized : Sized (length p) l
+  pub fits : Fitted l younger
+  pub legal : Legal (viewOf p g u f (l .start) (l .actions))
+  pub reverses : Reverses (viewOf p g u f (l .start) (l .actions)) (index u reaching lines leading cells)
+  pub line-chains : Chains mostMoves reaching lines
+  pub cell-chains : Chains 2048 leading cells
+
+-- the final ranks, all at most n, and the masks
+pub record Worked (E : Arena) (after left : List ℕ) (n : ℕ) : Type 0 where
+  pub ranks : after ≡ finalRanks E
+  pub masks : left ≡ masks E
+  pub most : (k : ℕ) → getD (finalRanks E) k 0 ≤ n
