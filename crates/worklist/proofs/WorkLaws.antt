@@ -8,7 +8,8 @@ use native.Mathlib.Nat.{mod-eq-of-lt}
 use mir.Val.{Fits}
 use mir.Syntax.{w8, w16}
 use lib.Pow.{pow-pos, pow-mono}
-use lib.ListN.{length, getD}
+use lib.ListN.{length, getD, take}
+use lib.Seq.{length-take-le}
 use borrow.Author.Needs.{needs}
 use Rattle.theory.specs.Game.{absent, Game}
 use Rattle.theory.specs.Rounds.{Arena, fell, ranksAfter}
@@ -94,14 +95,14 @@ module _ (p : List ℕ) (g : List (List ℕ)) (u f reaching lines leading cells 
         (w .tail) w start-placed in
         record {
           ready =
-            rw e
-            (record {
-              some = omega arith;
-              good = good;
-              order = omega arith;
-              blocked = marked;
-              earlier = λ j a b. let z = fell-rank (ranksAfter E 1) j a in absurd (omega arith);
-            });
+              rw e
+              (record {
+                some = omega arith;
+                good = good;
+                order = omega arith;
+                blocked = marked;
+                earlier = λ j a b. let z = fell-rank (ranksAfter E 1) j a in absurd (omega arith);
+              });
           few = omega arith;
         }
 
@@ -163,3 +164,7 @@ module _ (p : List ℕ) (g : List (List ℕ)) (u f reaching lines leading cells 
 
       pub round-over : v .tail ≡ hi → Worked E (v .ranks) (v .masks) n
       round-over z = let d = done-here z in record { ranks = d .ranks; masks = d .masks; most = d .most }
+
+-- the queue's part for the nodes
+pub queue-part : (n : ℕ) (queue : List ℕ) → length queue ≡ 16384 → n ≤ 16384 → n ≡ length (take n queue)
+queue-part n queue e h = sym (length-take-le n queue (omega arith))

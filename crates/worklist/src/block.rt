@@ -127,7 +127,19 @@ pub(crate) fn block(
     let mut end = tail;
     let mut b: usize = 0;
     while b < rows {
-        end = block_row(p, grid, u, firsts, level, younger, ranks, masks, queue, b, end);
+        end = block_row(
+            p,
+            grid,
+            u,
+            firsts,
+            level,
+            younger,
+            ranks,
+            masks,
+            queue,
+            b,
+            end,
+        );
         b += 1;
     }
     end

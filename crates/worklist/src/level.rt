@@ -51,7 +51,22 @@ fn all_rounds(
     let mut lo: usize = 0;
     let mut n: u16 = 1;
     let last = loop {
-        let end = sweep(u, reaching, lines, leading, cells, level, younger, ranks, masks, queue, n, lo, hi, tail);
+        let end = sweep(
+            u,
+            reaching,
+            lines,
+            leading,
+            cells,
+            level,
+            younger,
+            ranks,
+            masks,
+            queue,
+            n,
+            lo,
+            hi,
+            tail,
+        );
         if end == hi {
             break n;
         }
@@ -86,5 +101,19 @@ pub fn work(
     let mut queue = [0u16; MOST_NODES];
     let nodes = level.nodes;
     let younger = level.words / level.actions;
-    all_rounds(p, grid, u, firsts, reaching, lines, leading, cells, level, younger, ranks, masks, &mut queue[..nodes])
+    all_rounds(
+        p,
+        grid,
+        u,
+        firsts,
+        reaching,
+        lines,
+        leading,
+        cells,
+        level,
+        younger,
+        ranks,
+        masks,
+        &mut queue[..nodes],
+    )
 }

@@ -13,7 +13,7 @@ use Rattle.worklist.proofs.block.block.Statement.{statement}
 use Rattle.worklist.proofs.block.block.Tie as tie
 
 abbrev Inv-loop : tie.InvT-loop
-Inv-loop p grid u firsts level younger ranks₀ masks₀ queue₀ tail rows end₀ b₀ ranks masks queue end b = 
+Inv-loop p grid u firsts level younger ranks₀ masks₀ queue₀ tail rows end₀ b₀ ranks masks queue end b =
     (b ≤ length p * level .actions)
     × (length ranks ≡ length ranks₀)
     × (length masks ≡ length masks₀)
@@ -34,10 +34,14 @@ add-b : tie.Need-add-b Inv-loop μ-loop
 add-b c = let f = rows-fit _ _ (c .before .before .before .before .before .before .before .before .before .before .before .before .before .before .before .before .before .before .pre .0) in let t = c .before .before .before .before .before .before .before .before .before .before .loop-test .taken in record { fits = omega arith }
 
 loop-again : tie.Need-loop-again Inv-loop μ-loop
-loop-again c = 
-    let l = c .before .before .before .before .before .before .before .before .before .before .before .loop in
-    (search needs, search needs, search needs, search needs,
-    blocks-again _ _ _ (l .b) _ (l .inv .4) (c .before .before .before .before .before .before .before .before .before .before .loop-test .taken) (c .before .before .before .before .before .before .block-row .ensures))
+loop-again c =
+    let l = c .before .before .before .before .before .before .before .before .before .before .before .loop in (
+      search needs,
+      search needs,
+      search needs,
+      search needs,
+      blocks-again _ _ _ (l .b) _ (l .inv .4) (c .before .before .before .before .before .before .before .before .before .before .loop-test .taken) (c .before .before .before .before .before .before .block-row .ensures),
+    )
 
 returns : tie.Need-returns Inv-loop μ-loop
 returns c = let l = c .before .loop in blocks-end _ _ _ (l .b) _ (l .inv .4) (c .loop-test .left)

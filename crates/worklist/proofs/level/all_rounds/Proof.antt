@@ -11,7 +11,7 @@ use Rattle.worklist.proofs.level.all_rounds.Statement.{statement}
 use Rattle.worklist.proofs.level.all_rounds.Tie as tie
 
 abbrev Inv-loop : tie.InvT-loop
-Inv-loop p grid u firsts reaching lines leading cells level younger ranks₀ masks₀ queue₀ hi₀ tail₀ lo₀ n₀ ranks masks queue hi tail lo n = 
+Inv-loop p grid u firsts reaching lines leading cells level younger ranks₀ masks₀ queue₀ hi₀ tail₀ lo₀ n₀ ranks masks queue hi tail lo n =
     (length ranks ≡ length ranks₀)
     × (length masks ≡ length masks₀)
     × (length queue ≡ length queue₀)
@@ -24,18 +24,21 @@ first-requires : tie.Need-first-requires Inv-loop μ-loop
 first-requires c κs = let p = c .before .before .before .before .before .before .before .before .before .pre in (p .0 .sized, p .1, p .2, p .3)
 
 block-requires : tie.Need-block-requires Inv-loop μ-loop
-block-requires c κs = 
+block-requires c κs =
     let p = c .before .before .before .before .before .before .before .before .before .before .before .before .before .before .before .before .before .before .before .pre in
     (p .0 .sized, p .0 .fits, start-lent _ _ _ _ _ _ _ _ _ _ (p .0) _ (c .before .before .before .before .before .before .before .before .before .before .before .before .before .full-mask .ensures) (c .before .before .before .before .before .before .before .before .before .first .ensures))
 
 loop-holds : tie.Need-loop-holds Inv-loop μ-loop
-loop-holds c = 
-    let p = c .before .before .before .before .before .before .before .before .before .before .before .before .before .before .before .before .before .before .before .before .before .before .before .before .before .before .pre in
-    (search needs, search needs, search needs,
-    start-rounds _ _ _ _ _ _ _ _ _ _ (p .0) _ (c .before .before .before .before .before .before .before .before .before .before .before .before .before .before .before .before .before .before .before .before .full-mask .ensures) (c .before .before .before .before .before .before .before .before .before .before .before .before .before .before .before .before .first .ensures) (c .before .before .before .before .before .before .block .ensures))
+loop-holds c =
+    let p = c .before .before .before .before .before .before .before .before .before .before .before .before .before .before .before .before .before .before .before .before .before .before .before .before .before .before .pre in (
+      search needs,
+      search needs,
+      search needs,
+      start-rounds _ _ _ _ _ _ _ _ _ _ (p .0) _ (c .before .before .before .before .before .before .before .before .before .before .before .before .before .before .before .before .before .before .before .before .full-mask .ensures) (c .before .before .before .before .before .before .before .before .before .before .before .before .before .before .before .before .first .ensures) (c .before .before .before .before .before .before .block .ensures),
+    )
 
 sweep-requires : tie.Need-sweep-requires Inv-loop μ-loop
-sweep-requires c κs = 
+sweep-requires c κs =
     let p = c .before .before .before .before .before .before .before .before .before .before .before .before .before .before .before .before .before .before .before .before .before .before .before .before .before .before .before .before .before .before .pre .0 in
     let l = c .before .before .before .loop in
     (round-lent _ _ _ _ _ _ _ _ _ _ (c .before .before .before .before .before .before .before .before .before .before .before .before .before .before .before .before .before .before .before .before .before .before .before .before .before .before .before .before .before .before .pre .0) _ (l .lo) (l .hi) _ (l .inv .3), p .fits, round-few _ _ _ _ _ _ _ _ _ _ (c .before .before .before .before .before .before .before .before .before .before .before .before .before .before .before .before .before .before .before .before .before .before .before .before .before .before .before .before .before .before .pre .0) _ (l .lo) (l .hi) _ (l .inv .3), p .line-chains, p .cell-chains, round-queue _ _ _ _ _ _ _ _ _ _ (c .before .before .before .before .before .before .before .before .before .before .before .before .before .before .before .before .before .before .before .before .before .before .before .before .before .before .before .before .before .before .pre .0) _ (l .lo) (l .hi) _ (l .inv .3))
@@ -44,19 +47,19 @@ add-n : tie.Need-add-n Inv-loop μ-loop
 add-n c = let l = c .before .before .before .before .before .before .before .before .before .before .before .loop in let f = round-few _ _ _ _ _ _ _ _ _ _ (c .before .before .before .before .before .before .before .before .before .before .before .before .before .before .before .before .before .before .before .before .before .before .before .before .before .before .before .before .before .before .before .before .before .before .before .before .before .before .pre .0) _ (l .lo) (l .hi) _ (l .inv .3) in record { fits = omega arith }
 
 loop-less : tie.Need-loop-less Inv-loop μ-loop
-loop-less c = 
+loop-less c =
     let l = c .before .before .before .before .before .before .before .before .before .before .before .loop in
     let m = round-more _ _ _ _ _ _ _ _ _ _ (c .before .before .before .before .before .before .before .before .before .before .before .before .before .before .before .before .before .before .before .before .before .before .before .before .before .before .before .before .before .before .before .before .before .before .before .before .before .before .pre .0) _ (l .lo) (l .hi) _ (l .inv .3) (c .before .before .before .before .before .before .before .sweep .ensures) (c .if1 .left) in
     let i = next-inside _ _ _ _ _ _ _ _ _ _ (c .before .before .before .before .before .before .before .before .before .before .before .before .before .before .before .before .before .before .before .before .before .before .before .before .before .before .before .before .before .before .before .before .before .before .before .before .before .before .pre .0) _ (l .lo) (l .hi) _ (l .inv .3) (c .before .before .before .before .before .before .before .sweep .ensures) in
     omega arith
 
 loop-again : tie.Need-loop-again Inv-loop μ-loop
-loop-again c = 
+loop-again c =
     let l = c .before .before .before .before .before .before .before .before .before .before .before .loop in
     (search needs, search needs, search needs, round-next _ _ _ _ _ _ _ _ _ _ (c .before .before .before .before .before .before .before .before .before .before .before .before .before .before .before .before .before .before .before .before .before .before .before .before .before .before .before .before .before .before .before .before .before .before .before .before .before .before .pre .0) _ (l .lo) (l .hi) _ (l .inv .3) (c .before .before .before .before .before .before .before .sweep .ensures) (c .if1 .left))
 
 returns : tie.Need-returns Inv-loop μ-loop
-returns c = 
+returns c =
     let l = c .before .before .before .before .before .before .before .before .before .before .before .loop in
     round-over _ _ _ _ _ _ _ _ _ _ (c .before .before .before .before .before .before .before .before .before .before .before .before .before .before .before .before .before .before .before .before .before .before .before .before .before .before .before .before .before .before .before .before .before .before .before .before .before .before .pre .0) _ (l .lo) (l .hi) _ (l .inv .3) (c .before .before .before .before .before .before .before .sweep .ensures) (c .if1 .taken)
 

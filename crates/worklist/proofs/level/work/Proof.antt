@@ -1,46 +1,21 @@
+-- `work` meets its contract. Assumes nothing.
+use Prim.Native.Nat.{ℕ}
+use mathlib.Core.Path.{sym}
+use native.Mathlib.Omega.{arith}
+use lib.ListN.{length-replicate}
 use borrow.Author.Needs.{needs}
+use Rattle.worklist.proofs.WorkLaws.{queue-part}
 use Rattle.worklist.proofs.level.work.Statement.{statement}
 use Rattle.worklist.proofs.level.work.Tie as tie
-use Rattle.worklist.proofs.level.work.Reads as reads
-use Rattle.worklist.proofs.level.work.Lts as lts
-use Rattle.worklist.proofs.level.all_rounds.Reads as all-rounds-reads
 
--- src/level.rt:88:19
-div-younger : tie.Need-div-younger
-div-younger c = search needs
-
--- src/level.rt:89:99
-array-borrow-prefix-queue : tie.Need-array-borrow-prefix-queue
-array-borrow-prefix-queue c = search needs
-
--- src/level.rt:89:99
 slice-aggregate-all-rounds : tie.Need-slice-aggregate-all-rounds
-slice-aggregate-all-rounds c = ?
+slice-aggregate-all-rounds c = queue-part _ _ (length-replicate {A = ℕ} 16384 0) (c .before .before .before .before .before .before .before .before .pre .0 .sized .few-nodes)
 
--- src/level.rt:89:5
 all-rounds-requires : tie.Need-all-rounds-requires
-all-rounds-requires c κs = ?
-
--- src/level.rt:67:1
-same-length : tie.Need-same-length
-same-length c = search needs
-
--- src/level.rt:67:1
-same-length-2 : tie.Need-same-length-2
-same-length-2 c = search needs
-
--- src/level.rt:67:1
-returns : tie.Need-returns
-returns c = search needs
+all-rounds-requires c κs = let p = c .before .before .before .before .before .before .before .before .pre in (p .0, p .1, p .2, sym (queue-part _ _ (length-replicate {A = ℕ} 16384 0) (p .0 .sized .few-nodes)))
 
 pub work-spec : {M : Type 1} → statement M
 work-spec =
     tie.close
-    (tie.spec
-    div-younger
-    array-borrow-prefix-queue
-    slice-aggregate-all-rounds
-    all-rounds-requires
-    same-length
-    same-length-2
-    returns)
+    (tie.spec (λ c. search needs) (λ c. search needs) slice-aggregate-all-rounds all-rounds-requires (λ c. search needs)
+    (λ c. search needs) (λ c. search needs))
