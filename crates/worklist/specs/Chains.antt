@@ -1,12 +1,13 @@
 -- Reverse indices as chains. A key has the places 0, 1, .. below a count that have it; a chain leads from the last of them to
 -- the one before. A link is a place + 1, and 0 is the end. Assumes nothing.
-use Prim.Native.Nat.{ℕ, zero, suc, _≤_, _<_}
+use Prim.Native.Nat.{ℕ, zero, suc, _/_, _%_, _≤_, _<_}
 use mathlib.Core.Path.{_≡_}
 use mathlib.Core.Bool.{cond}
 use mathlib.Core.List.{List, [], _∷_}
 use lib.Dec.{eqb, ltb}
-use lib.ListN.{getD}
-use Rattle.sheet.specs.Limits.{indexEntries}
+use lib.ListN.{length, getD}
+use Rattle.sheet.specs.Limits.{indexEntries, mostActions}
+use Rattle.sheet.specs.code.Arrays.{markOf, targetAt}
 
 -- the link to the last place below n with key x
 unfoldable pub lastOf : (ℕ → ℕ) → ℕ → ℕ → ℕ
@@ -36,7 +37,13 @@ pub record Chains (count : ℕ) (heads links : List ℕ) : Type 0 where
   pub head : (x : ℕ) → headOf heads x ≤ count
   pub down : Down links
 
--- the chains of every key
-pub record Indexed (key : ℕ → ℕ) (count : ℕ) (heads links : List ℕ) : Type 0 where
-  pub head : (x : ℕ) → x < indexEntries → getD heads x 0 ≡ lastOf key x count
-  pub link : (i : ℕ) → i < count → getD links i 0 ≡ lastOf key (key i) i
+-- the chains of the first n places, by their keys; links of other places are 0
+pub record Linked (key : ℕ → ℕ) (n : ℕ) (heads links : List ℕ) : Type 0 where
+  pub size : length heads ≡ indexEntries
+  pub head : (x : ℕ) → x < indexEntries → getD heads x 0 ≡ lastOf key x n
+  pub link : (i : ℕ) → i < n → key i < indexEntries → getD links i 0 ≡ lastOf key (key i) i
+  pub down : (i : ℕ) → getD links i 0 ≤ i
+
+-- the key of a cell of the grid, by its position and action: its target's mark
+unfoldable pub cellKey : List (List ℕ) → ℕ → ℕ
+cellKey g x = markOf (targetAt g (x / mostActions) (x % mostActions))

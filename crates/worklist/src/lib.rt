@@ -5,3 +5,4 @@ pub mod sweep; // the nodes of one rank
 pub mod first; // round 1
 pub mod block; // round 2, where no action can be played
 pub mod level; // all rounds at one delay
+pub mod index; // the chains of lines and cells
