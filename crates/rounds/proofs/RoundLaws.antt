@@ -82,7 +82,7 @@ module _ (p : List ℕ) (g : List (List ℕ)) (u f : List ℕ) (l : Level) where
           ≡ allBelow (spoiltBy (arenaOf p g u f l) (fallenBy n ranks) k) (arenaOf p g u f l .actions)
       actions-are = ap (allBelow (spoiltBy (arenaOf p g u f l) (fallenBy n ranks) k)) (sym (actions-of p g u f l))
 
-pub ruleset striking = (needs, at-node, falls-fallen, falls-wrong, falls-all)
+pub ruleset falling = (needs, at-node, falls-fallen, falls-wrong, falls-all)
 
 -- one round: n of them are over, and the first k nodes of the next are done
 
@@ -154,7 +154,7 @@ module _ (E : Arena) (n : ℕ) (old : List ℕ) where
       (below? j k)
       ∙ sym (fallen-is n old j))
 
-  -- the half-updated list strikes what the old one does
+  -- by the half-updated list the same nodes fall as by the old one
   falls-here-now : (k : ℕ) → AtMost n old → 1 ≤ n → fallsTo E n (filled (rankIn E n old) k old) k ≡ fallsNext E n old k
   unfolding fallsTo fallsNext
   falls-here-now k most some =

@@ -1,5 +1,5 @@
 -- The index of first lines (specs/code/Arrays.antt), as the code of src/moves.rt fills it. Assumes nothing.
-use Prim.Native.Nat.{ℕ, suc, _+_, _*_, _/_, _≤_, _<_}
+use Prim.Native.Nat.{ℕ, suc, _+_, _*_, _≤_, _<_}
 use mathlib.Core.Path.{_≡_, refl, sym, _∙_}
 use mathlib.Core.Bool.{true, false}
 use mathlib.Core.List.{List}
@@ -11,8 +11,7 @@ use borrow.Author.Tests.{ltb-true, lt-ltb, le-ltb}
 use Rattle.theory.specs.Fold.{allBelow, firstNot}
 use Rattle.theory.proofs.Fold.{bool, all-none, all-at, all-below, all-fails, all-again, first, first-suc, first-unique}
 use Rattle.theory.proofs.Filling.{filled, filled-none, filled-more, filled-done}
-use Rattle.sheet.specs.code.Arrays.{fromBelow, firstLine, firstsOf, lineCount}
-use Rattle.sheet.specs.Limits.{indexEntries}
+use Rattle.sheet.specs.code.Arrays.{fromBelow, firstLine, firstsOf, lineCount, indexEntries}
 
 module _ (u : List ℕ) (q : ℕ) where
   -- a line passed, and the line looked for

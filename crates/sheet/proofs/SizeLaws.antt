@@ -14,8 +14,8 @@ use borrow.Author.Tests.{le-leb, lt-leb, leb-false}
 use Rattle.theory.specs.Strategy.{initialLength}
 use Rattle.theory.proofs.Fold.{bool, below?}
 use Rattle.sheet.specs.Checks.{nodesOf, sizeOk}
-use Rattle.sheet.specs.code.Steps.{powerTo}
-use Rattle.sheet.specs.Limits.{mostPositions, mostActions, mostDelay, mostNodes, mostWords, mostPower}
+use Rattle.sheet.specs.code.Steps.{powerTo, mostPower}
+use Rattle.sheet.specs.Limits.{mostPositions, mostActions, mostDelay, mostNodes, mostWords}
 
 pub product-small : {r m w x : ℕ} → r ≤ m → w ≡ x → x < 256 → r * w ≤ m * 256
 product-small h e l = mul-le-mul h (omega arith)

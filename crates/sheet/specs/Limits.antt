@@ -1,5 +1,5 @@
 -- Document 01's numbers for game sheets, named once. Assumes nothing.
-use Prim.Native.Nat.{ℕ, _+_}
+use Prim.Native.Nat.{ℕ, _^_}
 
 -- an offset and a length have two bytes each ("each of two bytes, low byte first")
 abbrev pub width : ℕ
@@ -8,10 +8,6 @@ width = 2
 -- "positions not 1 to 256"
 abbrev pub mostPositions : ℕ
 mostPositions = 256
-
--- the index of first lines has an entry for each position, and one for the end of the last position's
-abbrev pub indexEntries : ℕ
-indexEntries = mostPositions + 1
 
 -- "A is the number of commands, 1 to 8"; a row of the grid has as many targets
 abbrev pub mostActions : ℕ
@@ -31,8 +27,4 @@ mostNodes = 16384
 
 -- the most first words: three actions out of the most
 abbrev pub mostWords : ℕ
-mostWords = 512
-
--- where code cuts powers off, far above the most nodes
-abbrev pub mostPower : ℕ
-mostPower = 65536
+mostWords = mostActions ^ 3

@@ -31,15 +31,19 @@ targetOf c q x = targetIn c q x (length c / 3)
 unfoldable pub movesOf : List ℕ → ℕ → List ℕ
 movesOf u q = movesIn u q 0 (length u / 2)
 
+-- the positions of a P body with these targets and moves
+abbrev pub gameBy : List ℕ → ℕ → ℕ → (ℕ → ℕ → Target) → (ℕ → List ℕ) → Game
+gameBy p start actions target moves =
+    record {
+      positions = length p;
+      start = start;
+      actions = actions;
+      controller = controllerAt p;
+      safe = safeAt p;
+      target = target;
+      moves = moves;
+    }
+
 -- the game of document 01's "The yard and its play" that a game sheet describes
 unfoldable pub gameOf : List ℕ → Game
-gameOf s =
-    record {
-      positions = length (positionsBody s);
-      start = startOf s;
-      actions = actionCount s;
-      controller = controllerAt (positionsBody s);
-      safe = safeAt (positionsBody s);
-      target = targetOf (targetsBody s);
-      moves = movesOf (movesBody s);
-    }
+gameOf s = gameBy (positionsBody s) (startOf s) (actionCount s) (targetOf (targetsBody s)) (movesOf (movesBody s))

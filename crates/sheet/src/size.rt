@@ -6,9 +6,9 @@ ghost use mathlib.Core.Path.{_≡_};
 ghost use Prim.Native.Nat.{_*_, _/_, _≤_};
 ghost use lib.ListN.{length};
 ghost use Rattle.theory.specs.Strategy.{initialLength};
-ghost use Rattle.sheet.specs.Limits.{mostPositions, mostPower};
+ghost use Rattle.sheet.specs.Limits.{mostPositions};
 ghost use Rattle.sheet.specs.Checks.{sizeOk};
-ghost use Rattle.sheet.specs.code.Steps.{powerTo};
+ghost use Rattle.sheet.specs.code.Steps.{powerTo, mostPower};
 
 // A power, or 65,536 where it is more: then no product wraps, for any base and exponent.
 pub fn power(base: u8, exponent: usize) -> usize

@@ -11,7 +11,7 @@ use lib.Dec.{eqb}
 use lib.ListN.{length, getD, List·getD-eq-default}
 use borrow.Author.Needs.{needs}
 use borrow.Author.Tests.{not-true, not-false}
-use Rattle.theory.specs.Fold.{both, anyBelow}
+use Rattle.theory.specs.Fold.{anyBelow}
 use Rattle.theory.specs.Game.{Game}
 use Rattle.theory.specs.Rounds.{fell, finalRanks, kept, keptBy}
 use Rattle.theory.specs.Delay.{odd, words, onRight, arena, keptAt, goodBy, goodFrom, goodWith, winning, initialWords}
@@ -26,7 +26,8 @@ use Rattle.sheet.proofs.GridLaws.{unmark-absent, unmark-to}
 use Rattle.walk.specs.code.Levels.{levelAt}
 use Rattle.solver.specs.code.Kept.{onSide, movelessGame, goodIn, wordsOn, firstWords}
 use Rattle.walk.proofs.LevelLaws.{arena-is}
-use Rattle.sheet.specs.Limits.{mostActions, mostNodes, mostPower, mostPositions}
+use Rattle.sheet.specs.Limits.{mostActions, mostNodes, mostPositions}
+use Rattle.sheet.specs.code.Steps.{mostPower}
 use mathlib.Core.Logic.{⊎-elim}
 use Rattle.theory.proofs.Pending.{odd-delay, even-delay}
 use Rattle.theory.specs.Strategy.{initialLength}

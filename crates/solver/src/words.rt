@@ -62,15 +62,15 @@ pub(crate) fn good(
     if !safe_at(p, level.start) {
         return false;
     }
-    let reached = target(grid, level.start, v / level.words);
-    if reached == ABSENT {
+    let mark = target(grid, level.start, v / level.words);
+    if mark == ABSENT {
         return false;
     }
     kept(
         p,
         level,
         ranks,
-        wide16(reached) * level.words + v % level.words,
+        wide16(mark) * level.words + v % level.words,
     )
 }
 

@@ -4,12 +4,11 @@ use Prim.Native.Nat.{ℕ, zero, suc, _^_, _≤_, _<_}
 use mathlib.Core.Path.{_≡_, refl, sym, _∙_, ap}
 use mathlib.Core.Bool.{Bool, true, false, not}
 use mathlib.Core.Logic.{⊎-elim}
-use mathlib.Core.List.{List, List·Memᴰ}
+use mathlib.Core.List.{List}
 use lib.Pow.{pow-pos}
 use lib.ListN.{length, getD}
 use borrow.Author.Tests.{not-true, not-false}
 use Rattle.theory.specs.Fold.{allBelow, firstNot}
-use Rattle.theory.specs.Game.{Target, to}
 use Rattle.theory.specs.Rounds.{Arena, Closed, spoiltBy, fell, falls, ranksAfter, finalRanks, keptBy, kept, maskBelow, maskAt, masksBy, masks}
 use Rattle.theory.specs.Table.{bit}
 use Rattle.theory.proofs.Fold.{bool, not-both, both-true, both-left, both-right, all-fails, below?, first, length-tabulate, getD-tabulate, getD-tabulate-out}

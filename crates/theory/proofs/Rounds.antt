@@ -233,7 +233,7 @@ module _ (E : Arena) where
       (rw q at t, rw q at f))
       (bool (fell (ranksAfter E m) k))
 
-  -- what strikes a node after round 1 does not depend on the round's number
+  -- what makes a node fall after round 1 does not depend on the round's number
   later-falls : (n m : ℕ) (ranks : List ℕ) (k : ℕ) → falls E (suc n) ranks k ≡ falls E (suc m) ranks k
   unfolding falls
   later-falls n m ranks k = refl
@@ -264,7 +264,7 @@ module _ (E : Arena) where
       let z : suc m + suc n ≡ m + suc (suc n) = omega arith in
       ap (ranksAfter E) z ∙ quiet-final (suc n) m (quiet-again n q) ∙ q
 
-  -- each other round strikes a node, so nodes + 1 rounds suffice
+  -- in each other round a node falls, so nodes + 1 rounds suffice
 
   standing : ℕ → ℕ
   standing n = count (λ k. not (fell (ranksAfter E n) k)) (E .nodes)
@@ -321,7 +321,7 @@ module _ (E : Arena) where
   unfolding finalRanks
   final-after m = quiet-final (E .nodes) m final-quiet
 
-  -- where a round after round 1 strikes nothing, the ranks are the final ones: what a loop of rounds may stop at
+  -- where in a round after round 1 nothing falls, the ranks are the final ones: what a loop of rounds may stop at
   pub final-is : (n : ℕ) → ranksAfter E (suc (suc n)) ≡ ranksAfter E (suc n) → finalRanks E ≡ ranksAfter E (suc n)
   final-is n q =
       sym (final-after (suc n))

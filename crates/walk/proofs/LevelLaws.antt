@@ -1,6 +1,6 @@
 -- The numbers of one delay (src/level.rt), and the arena of the arrays at them: it is theory's. Assumes nothing.
 use Prim.Native.Nat.{ℕ, _*_, _/_, _%_, _^_, _≤_, min}
-use mathlib.Core.Path.{_≡_, refl, _∙_}
+use mathlib.Core.Path.{_≡_, refl}
 use mathlib.Core.List.{List}
 use native.Mathlib.Omega.{arith}
 use native.Mathlib.Nat.{mul-le-mul-left, mul-le-mul-right, pow-le-pow-right, one-le-pow}
@@ -11,11 +11,10 @@ use lib.ListN.{length}
 use borrow.Author.Needs.{needs}
 use borrow.Author.Tests.{le-leb}
 use Rattle.theory.specs.Delay.{odd, words, arena}
-use Rattle.sheet.specs.Limits.{mostNodes, mostPower}
+use Rattle.sheet.specs.Limits.{mostNodes}
 use Rattle.sheet.specs.Checks.{nodesOf}
-use Rattle.sheet.specs.code.Steps.{powerTo}
+use Rattle.sheet.specs.code.Steps.{powerTo, mostPower}
 use Rattle.sheet.specs.code.Arrays.{viewOf}
-use Rattle.walk.specs.declared.level.Level.{Level}
 use Rattle.walk.specs.code.Levels.{levelAt, levelTo, Room, arenaOf}
 use Rattle.walk.specs.code.Nodes.{Sized}
 use Rattle.walk.proofs.Products.{product-fits}

@@ -1,23 +1,23 @@
--- What the walk over a node's actions and moves finds, and that it is theory's `spoiltBy` (specs/Walks.antt, specs/View.antt).
+-- What the walk over a node's actions and moves finds, and that it is theory's `spoiltBy` (specs/code/Walks.antt).
 -- Assumes nothing.
 use Prim.Native.Nat.{ℕ, suc, _+_, _*_, _/_, _%_, _≤_, _<_}
 use mathlib.Core.Path.{_≡_, refl, sym, _∙_, ap}
 use mathlib.Core.Bool.{Bool, true, false, not}
 use mathlib.Core.Logic.{⊎-elim}
-use mathlib.Core.List.{List, [], map}
+use mathlib.Core.List.{List, map}
 use native.Mathlib.Omega.{arith}
 use native.Mathlib.Nat.{mod-lt, div-lt-iff-lt-mul}
 use native.Mathlib.Numerals.{add-one}
-use lib.Dec.{ltb, leb}
+use lib.Dec.{leb}
 use lib.ListN.{length, getD, List·getD-eq-default}
-use borrow.Author.Tests.{eq-eqb, ne-eqb, lt-ltb, le-ltb, not-true, not-false}
+use borrow.Author.Tests.{lt-ltb, le-ltb, not-true, not-false}
 use borrow.Author.Needs.{needs}
-use Rattle.theory.specs.Fold.{both, either, allBelow, anyOf}
+use Rattle.theory.specs.Fold.{either, allBelow, anyOf}
 use Rattle.theory.specs.Game.{Target, absent, to, Game}
 use Rattle.theory.specs.Rounds.{bad, spoiltBy}
 use Rattle.theory.specs.Delay.{withWord, movedTo, playedTo, outcomes, step}
 use Rattle.theory.proofs.Fold.{bool, all-none, all-suc, all-done, below?, not-both, all-again, either-left, any-of-nil, any-of-cons}
-use Rattle.theory.proofs.Fold.{both-true, both-false, both-none, both-second, either-second, all-short, any-of-map, tabulate-none}
+use Rattle.theory.proofs.Fold.{both-none, both-second, either-second, all-short, any-of-map, tabulate-none}
 use Rattle.theory.proofs.Fold.{tabulate-next}
 use Rattle.sheet.specs.Kinds.{kindAt, isSafe, safeAt}
 use Rattle.sheet.specs.code.Arrays.{unmark, targetAt, toAt, tosBetween, viewOf, absentMark}
@@ -25,7 +25,8 @@ use Rattle.walk.specs.declared.level.Level.{Level}
 use Rattle.walk.specs.declared.walk.Choice.{Choice}
 use Rattle.walk.specs.code.Levels.{arenaOf}
 use Rattle.walk.specs.code.Walks.{fallenBy, blockedAt, movingFrom, movesAfter, playedAt, choiceAt, outcomeBy, outcomeAt, Chosen}
-use Rattle.sheet.specs.Limits.{mostPositions, mostPower}
+use Rattle.sheet.specs.Limits.{mostPositions}
+use Rattle.sheet.specs.code.Steps.{mostPower}
 use Rattle.sheet.proofs.GridLaws.{unmark-absent, unmark-to}
 
 -- what has fallen

@@ -8,7 +8,7 @@ use sheet::size::power;
 ghost use mathlib.Core.Path.{_≡_};
 ghost use Rattle.walk.specs.code.Nodes.{isSized, isNode};
 ghost use Prim.Native.Nat.{min};
-ghost use Rattle.sheet.specs.Limits.{mostPower};
+ghost use Rattle.sheet.specs.code.Steps.{mostPower};
 ghost use Rattle.walk.specs.code.Levels.{levelTo};
 
 // words: the number of pending words. A node is a position times words, plus its pending word.

@@ -15,8 +15,9 @@ ghost use mathlib.Core.Path.{_≡_};
 ghost use Prim.Native.Nat.{_≤_, _<_};
 ghost use lib.ListN.{length, getD};
 ghost use Rattle.theory.specs.Rounds.{bad};
-ghost use Rattle.sheet.specs.Limits.{mostPositions, mostPower, indexEntries};
-ghost use Rattle.sheet.specs.code.Arrays.{toAt};
+ghost use Rattle.sheet.specs.Limits.{mostPositions};
+ghost use Rattle.sheet.specs.code.Steps.{mostPower};
+ghost use Rattle.sheet.specs.code.Arrays.{toAt, indexEntries};
 ghost use Rattle.walk.specs.code.Nodes.{Sized};
 ghost use Rattle.walk.specs.code.Walks.{fallenBy, blockedAt, movingFrom, outcomeAt, Chosen};
 ghost use Rattle.walk.specs.code.Walks.{spoiltIn, allSpoiltIn, spoiltAnswer, allSpoiltAnswer};
@@ -96,15 +97,15 @@ fn choose(
     if level.odd {
         return moves_from(firsts, action, rest, q);
     }
-    let reached = target(grid, q, action);
-    if reached == ABSENT {
+    let mark = target(grid, q, action);
+    if mark == ABSENT {
         return blocked(action, rest);
     }
-    let to = wide16(reached);
-    if !safe_at(p, to) {
+    let reached = wide16(mark);
+    if !safe_at(p, reached) {
         return blocked(action, rest);
     }
-    moves_from(firsts, action, rest, to)
+    moves_from(firsts, action, rest, reached)
 }
 
 // Does the environment's move on this line spoil the choice?
@@ -131,11 +132,11 @@ fn spoils(
     if !safe_at(p, to) {
         return true;
     }
-    let reached = target(grid, to, x.action);
-    if reached == ABSENT {
+    let mark = target(grid, to, x.action);
+    if mark == ABSENT {
         return true;
     }
-    fallen(marks, n, wide16(reached) * level.words + x.rest)
+    fallen(marks, n, wide16(mark) * level.words + x.rest)
 }
 
 // Is action c spoilt at node k, which exists?

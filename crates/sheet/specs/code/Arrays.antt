@@ -7,9 +7,8 @@ use lib.Dec.{eqb, ltb}
 use lib.ListN.{length, getD}
 use Rattle.theory.specs.Fold.{both, firstNot, tabulate}
 use Rattle.theory.specs.Game.{Target, absent, to, Game}
-use Rattle.sheet.specs.Limits.{mostPositions, mostActions, mostMoves, indexEntries}
-use Rattle.sheet.specs.Kinds.{controllerAt, safeAt}
-use Rattle.sheet.specs.SheetGame.{targetIn}
+use Rattle.sheet.specs.Limits.{mostPositions, mostActions, mostMoves}
+use Rattle.sheet.specs.SheetGame.{targetIn, gameBy}
 
 -- the grid's mark for an absent target: no position has it
 abbrev pub absentMark : ℕ
@@ -49,6 +48,10 @@ fromBelow u q i = ltb (getD u (2 * i) 0) q
 unfoldable pub firstLine : List ℕ → ℕ → ℕ
 firstLine u q = firstNot (fromBelow u q) (suc (lineCount u))
 
+-- the entries of the index of first lines, one more than there are positions
+abbrev pub indexEntries : ℕ
+indexEntries = mostPositions + 1
+
 -- the index: an entry for each position, and one for the end of the last position's lines
 unfoldable pub firstsOf : List ℕ → List ℕ
 firstsOf u = tabulate (firstLine u) 0 indexEntries
@@ -63,16 +66,7 @@ tosBetween u i e = tabulate (toAt u) i (e - i)
 
 -- the game that the arrays hold
 unfoldable pub viewOf : List ℕ → List (List ℕ) → List ℕ → List ℕ → ℕ → ℕ → Game
-viewOf p g u f start actions =
-    record {
-      positions = length p;
-      start = start;
-      actions = actions;
-      controller = controllerAt p;
-      safe = safeAt p;
-      target = targetAt g;
-      moves = λ q. tosBetween u (getD f q 0) (getD f (suc q) 0);
-    }
+viewOf p g u f start actions = gameBy p start actions (targetAt g) (λ q. tosBetween u (getD f q 0) (getD f (suc q) 0))
 
 -- the game of the arrays that the bodies of a sheet fill
 unfoldable pub bodiesGame : List ℕ → List ℕ → List ℕ → ℕ → ℕ → Game

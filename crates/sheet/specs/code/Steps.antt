@@ -5,7 +5,6 @@ use mathlib.Core.List.{List}
 use lib.Dec.{leb}
 use lib.ListN.{getD}
 use Rattle.theory.specs.Answer.{Answer, accepted, check}
-use Rattle.sheet.specs.Limits.{mostPower}
 use Rattle.sheet.specs.Kinds.{controllerAt}
 use Rattle.sheet.specs.Checks.{targetsOk, movesOk, allLeave, sizeOk}
 use Rattle.sheet.specs.declared.reading.Layout.{Layout}
@@ -13,6 +12,10 @@ use Rattle.sheet.specs.declared.reading.Layout.{Layout}
 -- `leavesAt`, from the positions that the C lines and the U lines begin with
 unfoldable pub leavesBy : List ℕ → List Bool → List Bool → ℕ → Bool
 leavesBy p targets moves q = cond (controllerAt p q) (getD targets q false) (getD moves q false)
+
+-- where powers are cut off, far above the most nodes
+abbrev pub mostPower : ℕ
+mostPower = 65536
 
 -- a power, cut off where it is more than any size asked about
 unfoldable pub powerTo : ℕ → ℕ → ℕ

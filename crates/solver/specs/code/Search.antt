@@ -41,6 +41,6 @@ pub record Fillable (p c u : List ℕ) (start actions delay : ℕ) (masks ranks 
   pub ranks-room : nodesOf (length p) actions delay ≤ length ranks
 
 -- the answer, and both buffers filled for the delay where the search stopped
-pub record Filled (G : Game) (d : ℕ) (masksBefore ranksBefore masksLeft ranksAfter : List ℕ) (r : Stop) : Type 0 where
+pub record Filled (G : Game) (d : ℕ) (masksBefore ranksBefore masksAfter ranksAfter : List ℕ) (r : Stop) : Type 0 where
   pub stopped : Stopped G d ranksBefore ranksAfter r
-  pub masks : masksLeft ≡ over (masks (arena G (r .delay))) masksBefore
+  pub masks : masksAfter ≡ over (masks (arena G (r .delay))) masksBefore

@@ -4,9 +4,9 @@ use Prim.Native.Nat.{ℕ, _*_, _/_, _^_, _≤_, min}
 use mathlib.Core.List.{List}
 use Rattle.theory.specs.Rounds.{Arena}
 use Rattle.theory.specs.Delay.{odd, arenaBy}
-use Rattle.sheet.specs.Limits.{mostPositions, mostActions, mostNodes, mostPower}
+use Rattle.sheet.specs.Limits.{mostPositions, mostActions, mostNodes}
 use Rattle.sheet.specs.Checks.{nodesOf}
-use Rattle.sheet.specs.code.Steps.{powerTo}
+use Rattle.sheet.specs.code.Steps.{powerTo, mostPower}
 use Rattle.sheet.specs.code.Arrays.{viewOf}
 use Rattle.walk.specs.declared.level.Level.{Level}
 

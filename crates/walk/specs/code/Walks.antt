@@ -13,7 +13,7 @@ use Rattle.walk.specs.declared.level.Level.{Level}
 use Rattle.walk.specs.declared.walk.Choice.{Choice}
 use Rattle.sheet.specs.code.Arrays.{targetAt}
 use Rattle.theory.specs.Rounds.{spoiltBy}
-use Rattle.sheet.specs.Limits.{mostPower}
+use Rattle.sheet.specs.code.Steps.{mostPower}
 use Rattle.walk.specs.code.Levels.{arenaOf}
 use Rattle.walk.specs.code.Nodes.{isNode}
 

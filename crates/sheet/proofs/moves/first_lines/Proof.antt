@@ -1,16 +1,15 @@
 -- `first_lines` meets its contract. The entries of the positions passed are in place. Assumes nothing.
-use Prim.Native.Nat.{_/_, _-_, _≤_}
+use Prim.Native.Nat.{_-_, _≤_}
 use mathlib.Core.Path.{_≡_}
 use mathlib.Core.Bool.{true}
 use native.Mathlib.Omega.{arith}
 use lib.ListN.{length}
 use Rattle.theory.specs.Fold.{allBelow}
 use Rattle.theory.proofs.Filling.{filled}
-use Rattle.sheet.specs.code.Arrays.{fromBelow, firstLine, lineCount}
+use Rattle.sheet.specs.code.Arrays.{fromBelow, firstLine, lineCount, indexEntries}
 use Rattle.sheet.proofs.MoveLaws.{index-inside, indexing}
 use Rattle.sheet.proofs.moves.first_lines.Statement.{statement}
 use Rattle.sheet.proofs.moves.first_lines.Tie as tie
-use Rattle.sheet.specs.Limits.{indexEntries}
 
 abbrev Inv-loop : tie.InvT-loop
 Inv-loop u firsts₀ line₀ q₀ firsts line q =

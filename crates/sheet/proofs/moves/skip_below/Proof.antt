@@ -1,8 +1,7 @@
 -- `skip_below` meets its contract. Every line passed is of a position below q. Assumes nothing.
-use Prim.Native.Nat.{_/_, _-_, _≤_}
+use Prim.Native.Nat.{_-_, _≤_}
 use mathlib.Core.Path.{_≡_}
 use mathlib.Core.Bool.{true}
-use lib.ListN.{length}
 use Rattle.theory.specs.Fold.{allBelow}
 use Rattle.sheet.specs.code.Arrays.{fromBelow, lineCount}
 use Rattle.sheet.proofs.MoveLaws.{skipping}

@@ -3,7 +3,7 @@
 use Prim.Native.Nat.{_≤_, _-_, _^_}
 use mathlib.Core.Path.{_≡_}
 use native.Mathlib.Omega.{arith}
-use Rattle.sheet.specs.Limits.{mostPower}
+use Rattle.sheet.specs.code.Steps.{mostPower}
 use Rattle.sheet.proofs.SizeLaws.{powers, product-small}
 use Rattle.sheet.proofs.size.power.Statement.{statement}
 use Rattle.sheet.proofs.size.power.Tie as tie
