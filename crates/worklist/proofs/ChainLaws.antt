@@ -12,10 +12,9 @@ use lib.Seq.{set-out, getD-set-same, getD-set-other}
 use borrow.Author.Needs.{needs}
 use borrow.Author.Tests.{eq-eqb, ne-eqb, lt-ltb, le-ltb}
 use Rattle.theory.proofs.Fold.{bool, same?, below?}
-use Rattle.worklist.specs.Chains.{lastOf, chainOf, chain, headOf, Down, Chains, Linked, cellKey}
+use Rattle.worklist.specs.Chains.{lastOf, chainOf, chain, headOf, Down, Chains, Linked, cellKey, Indexed}
 use Rattle.theory.specs.Game.{absent, to}
-use Rattle.sheet.specs.Limits.{indexEntries}
-use Rattle.sheet.specs.code.Arrays.{absentMark, markOf, unmark, targetAt, toAt}
+use Rattle.sheet.specs.code.Arrays.{indexEntries, absentMark, markOf, unmark, targetAt, toAt, lineCount}
 use Rattle.sheet.proofs.GridLaws.{unmark-absent, unmark-to}
 
 module _ (key : ℕ → ℕ) (x : ℕ) where
@@ -200,11 +199,11 @@ link-end heads links i x h = ap (set links i) (sym (List·getD-eq-default heads 
 
 pub ruleset linking = (needs, link-out, link-end)
 
-marked-absent : markOf absent ≡ absentMark
+pub marked-absent : markOf absent ≡ absentMark
 unfolding markOf
 marked-absent = refl
 
-marked-to : (t : ℕ) → markOf (to t) ≡ t
+pub marked-to : (t : ℕ) → markOf (to t) ≡ t
 unfolding markOf
 marked-to t = refl
 
@@ -229,3 +228,24 @@ linked-done key i n ix a b = let e : i ≡ n = omega arith in rw e at ix
 pub to-key : (u : List ℕ) (i : ℕ) {x b : ℕ} → x ≡ b → b ≡ getD u (2 * i + 1) 0 → x ≡ toAt u i
 unfolding toAt
 to-key u i e f = e ∙ f
+
+module _ (u : List ℕ) (g : List (List ℕ)) (delay : ℕ) {reaching lines leading cells : List ℕ} where
+  pub index-none : Linked (toAt u) 0 reaching lines → Linked (cellKey g) 0 leading cells → delay < 2 → Indexed u g delay reaching lines leading cells
+  index-none a b h =
+      record {
+        line-chains = linked-chains (toAt u) 0 4096 reaching lines a (omega arith);
+        cell-chains = linked-chains (cellKey g) 0 2048 leading cells b (omega arith);
+        lines-linked = λ d. absurd (omega arith);
+        cells-linked = λ d. absurd (omega arith);
+      }
+
+  pub index-both : Linked (toAt u) (lineCount u) reaching lines → Linked (cellKey g) 2048 leading cells → Indexed u g delay reaching lines leading cells
+  index-both a b =
+      record {
+        line-chains = linked-chains (toAt u) (lineCount u) 4096 reaching lines a (omega arith);
+        cell-chains = linked-chains (cellKey g) 2048 2048 leading cells b (omega arith);
+        lines-linked = λ d. a;
+        cells-linked = λ d. b;
+      }
+
+pub ruleset indexing = (needs, index-none, index-both)

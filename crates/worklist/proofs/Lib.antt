@@ -13,3 +13,4 @@ pub mod StartLaws
 pub mod BlockLaws
 pub mod BlockCode
 pub mod WorkLaws
+pub mod IndexLaws

@@ -6,8 +6,8 @@ use mathlib.Core.Bool.{cond}
 use mathlib.Core.List.{List, [], _∷_}
 use lib.Dec.{eqb, ltb}
 use lib.ListN.{length, getD}
-use Rattle.sheet.specs.Limits.{indexEntries, mostActions}
-use Rattle.sheet.specs.code.Arrays.{markOf, targetAt}
+use Rattle.sheet.specs.Limits.{mostActions, mostMoves}
+use Rattle.sheet.specs.code.Arrays.{indexEntries, markOf, targetAt, toAt, lineCount}
 
 -- the link to the last place below n with key x
 unfoldable pub lastOf : (ℕ → ℕ) → ℕ → ℕ → ℕ
@@ -47,3 +47,10 @@ pub record Linked (key : ℕ → ℕ) (n : ℕ) (heads links : List ℕ) : Type 
 -- the key of a cell of the grid, by its position and action: its target's mark
 unfoldable pub cellKey : List (List ℕ) → ℕ → ℕ
 cellKey g x = markOf (targetAt g (x / mostActions) (x % mostActions))
+
+-- the chains of the lines and the cells, where the delay asks for them; they end in any case
+pub record Indexed (u : List ℕ) (g : List (List ℕ)) (delay : ℕ) (reaching lines leading cells : List ℕ) : Type 0 where
+  pub line-chains : Chains mostMoves reaching lines
+  pub cell-chains : Chains 2048 leading cells
+  pub lines-linked : 2 ≤ delay → Linked (toAt u) (lineCount u) reaching lines
+  pub cells-linked : 2 ≤ delay → Linked (cellKey g) 2048 leading cells

@@ -1,12 +1,12 @@
 -- What a level needs to be solved by the worklist, and what is left then. Assumes nothing.
-use Prim.Native.Nat.{ℕ, _≤_}
+use Prim.Native.Nat.{ℕ, _*_, _≤_, _<_}
 use mathlib.Core.Path.{_≡_}
-use mathlib.Core.List.{List}
+use mathlib.Core.List.{List, List·Memᴰ}
 use lib.ListN.{length, getD}
-use Rattle.theory.specs.Game.{Legal}
+use Rattle.theory.specs.Game.{Game, Legal}
 use Rattle.theory.specs.Rounds.{Arena, finalRanks, masks}
 use Rattle.sheet.specs.Limits.{mostMoves}
-use Rattle.sheet.specs.code.Arrays.{viewOf}
+use Rattle.sheet.specs.code.Arrays.{viewOf, toAt, lineCount}
 use Rattle.walk.specs.declared.level.Level.{Level}
 use Rattle.walk.specs.code.Nodes.{Sized}
 use Rattle.worklist.specs.Chains.{Chains}
@@ -26,3 +26,8 @@ pub record Worked (E : Arena) (after left : List ℕ) (n : ℕ) : Type 0 where
   pub ranks : after ≡ finalRanks E
   pub masks : left ≡ masks E
   pub most : (k : ℕ) → getD (finalRanks E) k 0 ≤ n
+
+-- the lines of a U body are the moves of a game
+pub record Lines (G : Game) (u : List ℕ) : Type 0 where
+  pub move : (i : ℕ) → i < lineCount u → List·Memᴰ (toAt u i) (G .moves (getD u (2 * i) 0))
+  pub line : (q r : ℕ) → List·Memᴰ r (G .moves q) → (i : ℕ) × (i < lineCount u) × (getD u (2 * i) 0 ≡ q) × (toAt u i ≡ r)

@@ -12,7 +12,7 @@ ghost use mathlib.Core.Path.{_≡_};
 ghost use Prim.Native.Nat.{_+_, _<_, _≤_};
 ghost use lib.ListN.{length, getD, set};
 ghost use Rattle.sheet.specs.code.Arrays.{toAt, lineCount};
-ghost use Rattle.worklist.specs.Chains.{Linked, cellKey};
+ghost use Rattle.worklist.specs.Chains.{Linked, cellKey, Indexed};
 
 // Place i, with key x, in front of its chain. A key that there cannot be has none.
 fn link(heads: &mut [u16], links: &mut [u16], i: usize, x: usize)
@@ -63,4 +63,27 @@ pub(crate) fn link_cells(grid: &[[u16; ROW]; ROWS], heads: &mut [u16], links: &m
         link(heads, links, i, x);
         i += 1;
     }
+}
+
+// Both, where some delay up to the asked one has pending words; the arrays that are lent hold zeros.
+pub fn index(
+    u: &[u8],
+    grid: &[[u16; ROW]; ROWS],
+    delay: u8,
+    reaching: &mut [u16],
+    lines: &mut [u16],
+    leading: &mut [u16],
+    cells: &mut [u16],
+)
+    requires { ⌜ Linked (toAt (now u)) 0 (now reaching) (now lines) × (4096 ≤ length (now lines))
+        × Linked (cellKey (now grid)) 0 (now leading) (now cells) × (2048 ≤ length (now cells)) ⌝ }
+    ensures { λ r.
+        ⌜ Indexed (now (u .entry)) (now (grid .entry)) delay (now (reaching .exit)) (now (lines .exit))
+        (now (leading .exit)) (now (cells .exit)) ⌝ }
+{
+    if delay < 2 {
+        return;
+    }
+    link_lines(u, reaching, lines);
+    link_cells(grid, leading, cells);
 }
