@@ -1,11 +1,13 @@
 // From delay 0 upward to the asked delay or the first that loses. Nodes grow with the delay, so nothing beyond the owed entries
 // of the rank buffer is touched.
+use crate::levels::rank_level;
 use crate::words::some_good;
-use rounds::rounds::rounds;
 use sheet::limits::INDEX;
+use sheet::limits::MOST_MOVES;
 use sheet::limits::ROW;
 use sheet::limits::ROWS;
 use walk::level::level_at;
+use worklist::spread::CELLS;
 ghost use Rattle.sheet.specs.code.Arrays.{viewOf};
 ghost use Rattle.solver.specs.code.Search.{Searchable, Stopped};
 
@@ -21,12 +23,17 @@ pub(crate) fn search(
     grid: &[[u16; ROW]; ROWS],
     u: &[u8],
     firsts: &[u16; INDEX],
+    reaching: &[u16; INDEX],
+    lines: &[u16; MOST_MOVES],
+    leading: &[u16; INDEX],
+    cells: &[u16; CELLS],
     start: u8,
     actions: u8,
     delay: u8,
     ranks: &mut [u16],
 ) -> Stop
-    requires { ⌜ Searchable (now p) (now grid) (now u) (now firsts) start actions delay (now ranks) ⌝ }
+    requires { ⌜ Searchable (now p) (now grid) (now u) (now firsts) (now reaching) (now lines) (now leading) (now cells) start actions delay
+        (now ranks) ⌝ }
     ensures { λ r.
         ⌜ Stopped (viewOf (now (p .entry)) (now (grid .entry)) (now (u .entry)) (now (firsts .entry)) start actions) delay
         (now (ranks .entry)) (now (ranks .exit)) r ⌝ }
@@ -35,7 +42,7 @@ pub(crate) fn search(
     let stop = loop {
         let level = level_at(p.len(), start, actions, d);
         let nodes = level.nodes;
-        let n = rounds(p, grid, u, firsts, level, &mut ranks[..nodes]);
+        let n = rank_level(p, grid, u, firsts, reaching, lines, leading, cells, level, &mut ranks[..nodes]);
         let wins = some_good(p, grid, level, &ranks[..nodes]);
         if !wins {
             break Stop {

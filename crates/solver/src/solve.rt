@@ -1,9 +1,11 @@
 // Solving a game sheet: refusals 1 to 8, the answer, and the masks and ranks in the lent buffers.
 use crate::delays::Stop;
 use crate::delays::search;
-use crate::masks::fill_masks;
+use crate::levels::mask_level;
 use sheet::form::part;
 use sheet::grid::grid_of;
+use sheet::limits::INDEX;
+use sheet::limits::MOST_MOVES;
 use sheet::moves::first_lines;
 use sheet::reading::Layout;
 use sheet::reading::Reading;
@@ -12,6 +14,8 @@ use sheet::reading::refusal_number;
 use sheet::refusal::Refusal;
 use sheet::refusal::number;
 use walk::level::level_at;
+use worklist::index::index;
+use worklist::spread::CELLS;
 ghost use mathlib.Core.Path.{_≡_};
 ghost use Rattle.solver.specs.Solving.{solutionMeans, solving, masksSolved, ranksSolved};
 ghost use Rattle.solver.specs.code.Search.{Fillable, Filled};
@@ -42,14 +46,36 @@ fn fill(
 {
     let grid = grid_of(c);
     let firsts = first_lines(u);
-    let stop = search(p, &grid, u, &firsts, start, actions, delay, ranks);
-    let level = level_at(p.len(), start, actions, stop.delay);
-    let nodes = level.nodes;
-    fill_masks(
+    let mut reaching = [0u16; INDEX];
+    let mut lines = [0u16; MOST_MOVES];
+    let mut leading = [0u16; INDEX];
+    let mut cells = [0u16; CELLS];
+    index(u, &grid, delay, &mut reaching, &mut lines, &mut leading, &mut cells);
+    let stop = search(
         p,
         &grid,
         u,
         &firsts,
+        &reaching,
+        &lines,
+        &leading,
+        &cells,
+        start,
+        actions,
+        delay,
+        ranks,
+    );
+    let level = level_at(p.len(), start, actions, stop.delay);
+    let nodes = level.nodes;
+    mask_level(
+        p,
+        &grid,
+        u,
+        &firsts,
+        &reaching,
+        &lines,
+        &leading,
+        &cells,
         level,
         &ranks[..nodes],
         stop.rounds,

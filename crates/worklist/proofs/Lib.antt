@@ -14,3 +14,4 @@ pub mod BlockLaws
 pub mod BlockCode
 pub mod WorkLaws
 pub mod IndexLaws
+pub mod SheetLaws

@@ -1,5 +1,5 @@
 -- What a level needs to be solved by the worklist, and what is left then. Assumes nothing.
-use Prim.Native.Nat.{ℕ, _*_, _≤_, _<_}
+use Prim.Native.Nat.{ℕ, _*_, _/_, _≤_, _<_}
 use mathlib.Core.Path.{_≡_}
 use mathlib.Core.List.{List, List·Memᴰ}
 use lib.ListN.{length, getD}
@@ -31,3 +31,8 @@ pub record Worked (E : Arena) (after left : List ℕ) (n : ℕ) : Type 0 where
 pub record Lines (G : Game) (u : List ℕ) : Type 0 where
   pub move : (i : ℕ) → i < lineCount u → List·Memᴰ (toAt u i) (G .moves (getD u (2 * i) 0))
   pub line : (q r : ℕ) → List·Memᴰ r (G .moves q) → (i : ℕ) × (i < lineCount u) × (getD u (2 * i) 0 ≡ q) × (toAt u i ≡ r)
+
+-- a level that can be solved, by the worklist where words are pending
+pub record Levelable (p : List ℕ) (g : List (List ℕ)) (u f reaching lines leading cells : List ℕ) (l : Level) : Type 0 where
+  pub sized : Sized (length p) l
+  pub work : (l .words ≡ 1 → ⊥) → Workable p g u f reaching lines leading cells l (l .words / l .actions)

@@ -6,12 +6,14 @@ use mathlib.Core.List.{List}
 use lib.ListN.{length}
 use Rattle.theory.specs.Buffer.{over}
 use Rattle.theory.specs.Game.{Game, Legal}
-use Rattle.theory.specs.Rounds.{masks, finalRanks}
+use Rattle.theory.specs.Rounds.{Arena, masks, finalRanks}
 use Rattle.theory.specs.Delay.{Verdict, wins, losing, arena, answer}
 use Rattle.sheet.specs.Checks.{nodesOf}
 use Rattle.sheet.specs.code.Arrays.{viewOf, bodiesGame}
 use Rattle.walk.specs.code.Levels.{Room}
 use Rattle.rounds.specs.code.Falling.{AtMost}
+use Rattle.worklist.specs.Chains.{Indexed}
+use Rattle.worklist.specs.Level.{Lines}
 use Rattle.solver.specs.Solving.{solvedDelay}
 use Rattle.solver.specs.declared.delays.Stop.{Stop}
 
@@ -27,16 +29,24 @@ pub record Stopped (G : Game) (d : ℕ) (before after : List ℕ) (r : Stop) : T
   pub ranks : after ≡ over (finalRanks (arena G (r .delay))) before
   pub rounds : AtMost (r .rounds) (finalRanks (arena G (r .delay)))
 
--- the arrays hold a legal game whose numbers have room, and so do the ranks
-pub record Searchable (p : List ℕ) (g : List (List ℕ)) (u f : List ℕ) (start actions delay : ℕ) (ranks : List ℕ) : Type 0 where
+-- what the rounds of a level leave
+pub record Leveled (E : Arena) (after : List ℕ) (n : ℕ) : Type 0 where
+  pub final : after ≡ finalRanks E
+  pub most : AtMost n after
+
+-- the arrays hold a legal game whose numbers have room, and so do the ranks; the chains are those of its lines and cells
+pub record Searchable (p : List ℕ) (g : List (List ℕ)) (u f reaching lines leading cells : List ℕ) (start actions delay : ℕ) (ranks : List ℕ) : Type 0 where
   pub room : Room (length p) actions delay
   pub ranks-room : nodesOf (length p) actions delay ≤ length ranks
   pub legal : Legal (viewOf p g u f start actions)
+  pub moves : Lines (viewOf p g u f start actions) u
+  pub indexed : Indexed u g delay reaching lines leading cells
 
 -- bodies that the solver takes, and buffers with room for them
 pub record Fillable (p c u : List ℕ) (start actions delay : ℕ) (masks ranks : List ℕ) : Type 0 where
   pub room : Room (length p) actions delay
   pub legal : Legal (bodiesGame p c u start actions)
+  pub moves : Lines (bodiesGame p c u start actions) u
   pub masks-room : nodesOf (length p) actions delay ≤ length masks
   pub ranks-room : nodesOf (length p) actions delay ≤ length ranks
 

@@ -1,0 +1,75 @@
+// One delay's nodes: by plain rounds where no word is pending, else by the worklist.
+use crate::masks::fill_masks;
+use rounds::rounds::rounds;
+use sheet::limits::INDEX;
+use sheet::limits::MOST_MOVES;
+use sheet::limits::MOST_NODES;
+use sheet::limits::ROW;
+use sheet::limits::ROWS;
+use walk::level::Level;
+use worklist::level::work;
+use worklist::spread::CELLS;
+ghost use mathlib.Core.Path.{_≡_};
+ghost use lib.ListN.{length};
+ghost use Rattle.theory.specs.Rounds.{finalRanks, masksBy};
+ghost use Rattle.walk.specs.code.Levels.{arenaOf};
+ghost use Rattle.rounds.specs.code.Falling.{AtMost};
+ghost use Rattle.worklist.specs.Level.{Levelable};
+ghost use Rattle.solver.specs.code.Search.{Leveled};
+
+// The ranks, and the number of rounds.
+pub(crate) fn rank_level(
+    p: &[u8],
+    grid: &[[u16; ROW]; ROWS],
+    u: &[u8],
+    firsts: &[u16; INDEX],
+    reaching: &[u16; INDEX],
+    lines: &[u16; MOST_MOVES],
+    leading: &[u16; INDEX],
+    cells: &[u16; CELLS],
+    level: Level,
+    ranks: &mut [u16],
+) -> u16
+    requires { ⌜ (Levelable (now p) (now grid) (now u) (now firsts) (now reaching) (now lines) (now leading) (now cells) level)
+        × (length (now ranks) ≡ level .nodes) ⌝ }
+    ensures { λ r.
+        ⌜ Leveled (arenaOf (now (p .entry)) (now (grid .entry)) (now (u .entry)) (now (firsts .entry)) level) (now (ranks .exit)) r ⌝ }
+{
+    if level.words == 1 {
+        return rounds(p, grid, u, firsts, level, ranks);
+    }
+    let mut masks = [0u8; MOST_NODES];
+    let nodes = level.nodes;
+    work(p, grid, u, firsts, reaching, lines, leading, cells, level, ranks, &mut masks[..nodes])
+}
+
+// The masks, once the ranks stand. No rank is over n.
+pub(crate) fn mask_level(
+    p: &[u8],
+    grid: &[[u16; ROW]; ROWS],
+    u: &[u8],
+    firsts: &[u16; INDEX],
+    reaching: &[u16; INDEX],
+    lines: &[u16; MOST_MOVES],
+    leading: &[u16; INDEX],
+    cells: &[u16; CELLS],
+    level: Level,
+    ranks: &[u16],
+    n: u16,
+    masks: &mut [u8],
+)
+    requires { ⌜ (Levelable (now p) (now grid) (now u) (now firsts) (now reaching) (now lines) (now leading) (now cells) level)
+        × (now ranks ≡ finalRanks (arenaOf (now p) (now grid) (now u) (now firsts) level)) × (AtMost n (now ranks))
+        × (length (now masks) ≡ level .nodes) ⌝ }
+    ensures { λ r.
+        ⌜ now (masks .exit)
+        ≡ masksBy (arenaOf (now (p .entry)) (now (grid .entry)) (now (u .entry)) (now (firsts .entry)) level) (now (ranks .entry)) ⌝ }
+{
+    if level.words == 1 {
+        fill_masks(p, grid, u, firsts, level, ranks, n, masks);
+        return;
+    }
+    let mut again = [0u16; MOST_NODES];
+    let nodes = level.nodes;
+    work(p, grid, u, firsts, reaching, lines, leading, cells, level, &mut again[..nodes], masks);
+}
