@@ -2,6 +2,7 @@
 pub mod GoodLaws
 pub mod MaskLaws
 pub mod SearchLaws
+pub mod LevelLaws
 pub mod SolveLaws
 pub mod FlagLaws
 pub mod Cases

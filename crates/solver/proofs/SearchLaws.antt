@@ -21,12 +21,13 @@ use Rattle.walk.specs.declared.level.Level.{Level}
 use Rattle.walk.specs.code.Levels.{arenaOf}
 use Rattle.sheet.specs.code.Arrays.{viewOf}
 use Rattle.walk.specs.code.Nodes.{Sized}
-use Rattle.rounds.specs.code.Falling.{AtMost, RanksLeft}
-use Rattle.rounds.proofs.RankedLaws.{ranked-ranks, ranked-number}
+use Rattle.rounds.specs.code.Falling.{AtMost}
 use Rattle.walk.specs.code.Levels.{Room, levelAt, levelTo}
 use Rattle.solver.specs.code.Kept.{goodIn, firstWords}
 use Rattle.solver.specs.Solving.{solvedDelay}
-use Rattle.solver.specs.code.Search.{verdictBy, Stopped}
+use Rattle.worklist.specs.Level.{Levelable}
+use Rattle.worklist.proofs.SheetLaws.{levelable}
+use Rattle.solver.specs.code.Search.{verdictBy, Stopped, Leveled, Searchable}
 use Rattle.theory.specs.Buffer.{over}
 use Rattle.walk.proofs.LevelLaws.{level-whole, nodes-less, room-less, level-sized, arena-is, nodes-is}
 use Rattle.solver.proofs.GoodLaws.{winning-is}
@@ -79,12 +80,12 @@ module _ (p : List ℕ) (g : List (List ℕ)) (u f : List ℕ) (start actions de
 
   -- the rounds gave these ranks at this level
   module _ (l : Level) (made : l ≡ levelTo (length p) start actions d) (ranks : List ℕ) (n : ℕ)
-      (ranked : RanksLeft p g u f l (take (l .nodes) old) ranks n) where
+      (ranked : Leveled (arenaOf p g u f l) ranks n) where
     is : l ≡ levelAt (length p) start actions d
     is = whole made
 
     final : ranks ≡ finalRanks (arenaOf p g u f l)
-    final = ranked-ranks (length p) l _ _ _ ranks n (level-here made) (front-length made) ranked
+    final = ranked .final
 
     ranks-here : ranks ≡ finalRanks (arena G d)
     ranks-here = final ∙ ap (λ x. finalRanks (arenaOf p g u f x)) is ∙ ap finalRanks (arena-is p g u f start actions d)
@@ -126,8 +127,7 @@ module _ (p : List ℕ) (g : List (List ℕ)) (u f : List ℕ) (start actions de
     front-here = take-at ranks (drop (l .nodes) old) (l .nodes) (ranks-length ∙ sym level-nodes)
 
     most-here : AtMost n (finalRanks (arena G d))
-    most-here =
-        rw (← ranks-here) (ranked-number (length p) l _ _ _ ranks n (level-here made) (front-length made) ranked)
+    most-here = rw (← ranks-here) (ranked .most)
 
     module _ {r : Bool} (some : r ≡ anyBelow (goodIn p g l (take (l .nodes) after)) (firstWords l)) where
       tested : r ≡ winning G d
@@ -196,9 +196,19 @@ module _ (p : List ℕ) (g : List (List ℕ)) (u f : List ℕ) (start actions de
               ∙ drop-drop k nodes before
               ∙ ap (λ x. drop x before) (sym q)
 
+-- the level can be solved
+pub level-can : (p : List ℕ) (g : List (List ℕ)) (u f reaching lines leading cells : List ℕ) (start actions delay : ℕ) (before old : List ℕ) (d : ℕ)
+    → Searchable p g u f reaching lines leading cells start actions delay before
+    → Searched (viewOf p g u f start actions) (nodesOf (length p) actions d) delay d before old → {l : Level}
+    → l ≡ levelTo (length p) start actions d → Levelable p g u f reaching lines leading cells l
+level-can p g u f reaching lines leading cells start actions delay before old d can searched made =
+    let room = room-less (can .room) (searched .asked) in
+    levelable p g u f reaching lines leading cells start actions delay d room (can .legal) (can .moves) (can .indexed) (searched .asked)
+    (made ∙ level-whole room start)
+
 module _ (G : Game) (nodes delay : ℕ) (before : List ℕ) where
   pub searched-start : Searched G nodes delay 0 before before
   searched-start = record { asked = omega arith; room = refl; beyond = refl; won = λ j h. absurd (omega arith) }
 
 pub ruleset upward =
-    (needs, searched-start, room-here, level-here, start-here, fits-here, front-length, after-length, after-room, after-front, stops-lost, stops-won, searched-next)
+    (needs, searched-start, level-can, room-here, level-here, start-here, fits-here, front-length, after-length, after-room, after-front, stops-lost, stops-won, searched-next)

@@ -42,7 +42,18 @@ pub(crate) fn search(
     let stop = loop {
         let level = level_at(p.len(), start, actions, d);
         let nodes = level.nodes;
-        let n = rank_level(p, grid, u, firsts, reaching, lines, leading, cells, level, &mut ranks[..nodes]);
+        let n = rank_level(
+            p,
+            grid,
+            u,
+            firsts,
+            reaching,
+            lines,
+            leading,
+            cells,
+            level,
+            &mut ranks[..nodes],
+        );
         let wins = some_good(p, grid, level, &ranks[..nodes]);
         if !wins {
             break Stop {

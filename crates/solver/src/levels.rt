@@ -40,7 +40,19 @@ pub(crate) fn rank_level(
     }
     let mut masks = [0u8; MOST_NODES];
     let nodes = level.nodes;
-    work(p, grid, u, firsts, reaching, lines, leading, cells, level, ranks, &mut masks[..nodes])
+    work(
+        p,
+        grid,
+        u,
+        firsts,
+        reaching,
+        lines,
+        leading,
+        cells,
+        level,
+        ranks,
+        &mut masks[..nodes],
+    )
 }
 
 // The masks, once the ranks stand. No rank is over n.
@@ -71,5 +83,17 @@ pub(crate) fn mask_level(
     }
     let mut again = [0u16; MOST_NODES];
     let nodes = level.nodes;
-    work(p, grid, u, firsts, reaching, lines, leading, cells, level, &mut again[..nodes], masks);
+    work(
+        p,
+        grid,
+        u,
+        firsts,
+        reaching,
+        lines,
+        leading,
+        cells,
+        level,
+        &mut again[..nodes],
+        masks,
+    );
 }

@@ -101,8 +101,8 @@ levelable p g u f reaching lines leading cells start actions delay d room legal 
             fits = fitted (length p) start actions d room many;
             legal = legal;
             reverses =
-              index-reverses p g u f start actions reaching lines leading cells (room .few-positions) legal all (ix .lines-linked (omega arith))
-              (ix .cells-linked (omega arith));
+                index-reverses p g u f start actions reaching lines leading cells (room .few-positions) legal all (ix .lines-linked (omega arith))
+                (ix .cells-linked (omega arith));
             line-chains = ix .line-chains;
             cell-chains = ix .cell-chains;
           };

@@ -8,10 +8,10 @@ use Rattle.solver.proofs.delays.search.Statement.{statement}
 use Rattle.solver.proofs.delays.search.Tie as tie
 
 abbrev Inv-loop : tie.InvT-loop
-Inv-loop p grid u firsts start actions delay ranks₀ d₀ ranks d = Searched (viewOf p grid u firsts start actions) (nodesOf (length p) actions d) delay d ranks₀ ranks
+Inv-loop p grid u firsts reaching lines leading cells start actions delay ranks₀ d₀ ranks d = Searched (viewOf p grid u firsts start actions) (nodesOf (length p) actions d) delay d ranks₀ ranks
 
 abbrev μ-loop : tie.MeasureT-loop
-μ-loop p grid u firsts start actions delay ranks₀ d₀ ranks d = delay - d
+μ-loop p grid u firsts reaching lines leading cells start actions delay ranks₀ d₀ ranks d = delay - d
 
 pub search-spec : {M : Type 1} → statement M
 search-spec =
