@@ -41,14 +41,14 @@ use Rattle.rounds.specs.code.Falling.{AtMost}
 use Rattle.solver.specs.declared.delays.Stop.{Stop}
 use Rattle.walk.specs.code.Levels.{Room, levelAt, levelTo}
 use Rattle.solver.specs.Solving.{solveAnswer, solvedDelay, masksLeft, ranksLeft}
-use Rattle.solver.specs.code.Search.{verdictBy, Stopped, Searchable, Fillable, Filled}
+use Rattle.solver.specs.code.Search.{verdictBy, Stopped, MasksStopped, Searchable, Fillable, Filled}
 use Rattle.theory.specs.Buffer.{over}
 use Rattle.walk.proofs.LevelLaws.{level-whole, nodes-less, room-less, level-sized, arena-is, nodes-is}
 use Rattle.sheet.proofs.Bodies.{bodies-game}
 use Rattle.worklist.specs.Chains.{Indexed, Linked}
 use Rattle.worklist.proofs.ChainLaws.{linked-none}
-use Rattle.worklist.specs.Level.{Lines, Levelable}
-use Rattle.worklist.proofs.SheetLaws.{levelable, sheet-lines}
+use Rattle.worklist.proofs.SheetLaws.{sheet-lines}
+use Rattle.solver.proofs.SearchLaws.{words-at}
 
 pub length-over : (entries buffer : List ℕ) → length entries ≤ length buffer → length (over entries buffer) ≡ length buffer
 unfolding over
@@ -63,12 +63,12 @@ stop-within G legal d (losing m) e = answer-least G legal d m e .asked
 
 -- both buffers, by the arrays: r is where the search stopped, with the ranks in after
 module _ (p : List ℕ) (g : List (List ℕ)) (u f reaching lines leading cells : List ℕ) (start actions delay : ℕ) (before-masks before : List ℕ)
-    (can : Searchable p g u f reaching lines leading cells start actions delay before)
-    (enough : nodesOf (length p) actions delay ≤ length before-masks) where
+    (can : Searchable p g u f reaching lines leading cells start actions delay before-masks before) where
   abbrev G : Game
   G = viewOf p g u f start actions
 
-  module _ (after : List ℕ) (r : Stop) (stopped : Stopped G delay before after r) where
+  module _ (after-masks after : List ℕ) (r : Stop) (stopped : Stopped G delay before after r)
+      (left : MasksStopped G (r .delay) before-masks after-masks) where
     within : r .delay ≤ delay
     within = rw (stopped .delay) (stop-within G (can .legal) delay (answer G delay) refl)
 
@@ -101,23 +101,15 @@ module _ (p : List ℕ) (g : List (List ℕ)) (u f reaching lines leading cells 
       pub ranks-room : l .nodes ≤ length after
       ranks-room = let e = level-nodes in let h = can .ranks-room in let i = few in let n = after-length in omega arith
 
-      pub masks-room : l .nodes ≤ length before-masks
-      masks-room = let e = level-nodes in let i = few in omega arith
+      pub masks-room : l .nodes ≤ length after-masks
+      masks-room = let e = level-nodes in let h = can .masks-room in let i = few in let n = left .size in omega arith
 
-      pub masks-front : length (take (l .nodes) before-masks) ≡ l .nodes
-      masks-front = length-take-le (l .nodes) before-masks masks-room
+      pub masks-front : length (take (l .nodes) after-masks) ≡ l .nodes
+      masks-front = length-take-le (l .nodes) after-masks masks-room
 
       ranks-front : take (l .nodes) after ≡ finalRanks (arena G (r .delay))
       unfolding over
       ranks-front = rw (stopped .ranks) (take-at _ _ (l .nodes) (ranks-length ∙ sym level-nodes))
-
-      pub ranks-final : take (l .nodes) after ≡ finalRanks (arenaOf p g u f l)
-      ranks-final =
-          ranks-front ∙ ap finalRanks (sym (ap (arenaOf p g u f) is ∙ arena-is p g u f start actions (r .delay)))
-
-      pub level-stop : Levelable p g u f reaching lines leading cells l
-      level-stop =
-          levelable p g u f reaching lines leading cells start actions delay (r .delay) room-stop (can .legal) (can .moves) (can .indexed) within is
 
       pub ranks-count : length (take (l .nodes) after) ≡ l .nodes
       ranks-count = length-take-le (l .nodes) after ranks-room
@@ -141,26 +133,41 @@ module _ (p : List ℕ) (g : List (List ℕ)) (u f reaching lines leading cells 
           ∙ nodes-is p g u f start actions (r .delay)
           ∙ sym level-nodes
 
+      -- the search left them where words are pending
+      pub masks-ready : (l .words ≡ 1 → ⊥) → take (l .nodes) after-masks ≡ masksBy (arenaOf p g u f l) (take (l .nodes) after)
+      unfolding masks
+      masks-ready many =
+          ap (λ (x : ℕ). take x after-masks) (level-nodes ∙ sym (nodes-is p g u f start actions (r .delay)))
+          ∙ left .made (λ one. many (ap (λ (x : Level). x .words) is ∙ sym (words-at p g u f start actions (r .delay)) ∙ one))
+          ∙ sym (masks-made refl)
+
       pub masks-length : {m : List ℕ} → m ≡ masksBy (arenaOf p g u f l) (take (l .nodes) after)
-          → length (m ++ drop (l .nodes) before-masks) ≡ length before-masks
+          → length (m ++ drop (l .nodes) after-masks) ≡ length before-masks
       masks-length {m} e =
           let n = masks-made-length e in
           let h = masks-room in
-          rw (length-append m (drop (l .nodes) before-masks), length-drop (l .nodes) before-masks) (omega arith)
+          let k = left .size in
+          rw (length-append m (drop (l .nodes) after-masks), length-drop (l .nodes) after-masks) (omega arith)
+
+      rest-is : drop (l .nodes) after-masks ≡ drop (l .nodes) before-masks
+      rest-is =
+          let q : l .nodes ≡ arena G (r .delay) .nodes = level-nodes ∙ sym (nodes-is p g u f start actions (r .delay)) in
+          ap (λ (x : ℕ). drop x after-masks) q ∙ left .beyond ∙ ap (λ (x : ℕ). drop x before-masks) (sym q)
 
       pub fills : {m : List ℕ} → m ≡ masksBy (arenaOf p g u f l) (take (l .nodes) after)
-          → Filled G delay before-masks before (m ++ drop (l .nodes) before-masks) after r
+          → Filled G delay before-masks before (m ++ drop (l .nodes) after-masks) after r
       unfolding over
       fills {m} e =
           record {
             stopped = stopped;
             masks =
-                ap (λ x. m ++ drop x before-masks) (sym (masks-made-length e))
+                ap (λ x. m ++ x) rest-is
+                ∙ ap (λ x. m ++ drop x before-masks) (sym (masks-made-length e))
                 ∙ ap (λ (x : List ℕ). x ++ drop (length x) before-masks) (masks-made e);
           }
 
 pub ruleset filling =
-    (needs, room-stop, after-length, sized-stop, ranks-room, masks-room, masks-front, ranks-count, ranks-final, level-stop, most-stop, masks-length, fills)
+    (needs, room-stop, after-length, sized-stop, ranks-room, masks-room, masks-front, ranks-count, most-stop, masks-ready, masks-length, fills)
 
 -- the arrays of a sheet's bodies
 module _ (p c u : List ℕ) (start actions delay : ℕ) (before-masks before : List ℕ)
@@ -171,10 +178,11 @@ module _ (p c u : List ℕ) (start actions delay : ℕ) (before-masks before : L
   game-here = rw (eg, ef)
 
   pub bodies-can : (reaching lines leading cells : List ℕ) → Indexed u g delay reaching lines leading cells
-      → Searchable p g u f reaching lines leading cells start actions delay before
+      → Searchable p g u f reaching lines leading cells start actions delay before-masks before
   bodies-can reaching lines leading cells ix =
       record {
         room = fillable .room;
+        masks-room = fillable .masks-room;
         ranks-room = fillable .ranks-room;
         legal = rw game-here at (fillable .legal);
         moves = rw game-here at (fillable .moves);

@@ -1,6 +1,6 @@
 // From delay 0 upward to the asked delay or the first that loses. Nodes grow with the delay, so nothing beyond the owed entries
-// of the rank buffer is touched.
-use crate::levels::rank_level;
+// of the two buffers is touched.
+use crate::levels::solve_level;
 use crate::words::some_good;
 use sheet::limits::INDEX;
 use sheet::limits::MOST_MOVES;
@@ -9,7 +9,7 @@ use sheet::limits::ROWS;
 use walk::level::level_at;
 use worklist::spread::CELLS;
 ghost use Rattle.sheet.specs.code.Arrays.{viewOf};
-ghost use Rattle.solver.specs.code.Search.{Searchable, Stopped};
+ghost use Rattle.solver.specs.code.Search.{Searchable, Stopped, MasksStopped};
 
 // Where the search stopped: whether the asked delay wins, the delay whose ranks stand, and the number of its rounds.
 pub struct Stop {
@@ -31,18 +31,21 @@ pub(crate) fn search(
     actions: u8,
     delay: u8,
     ranks: &mut [u16],
+    masks: &mut [u8],
 ) -> Stop
     requires { ⌜ Searchable (now p) (now grid) (now u) (now firsts) (now reaching) (now lines) (now leading) (now cells) start actions delay
-        (now ranks) ⌝ }
+        (now masks) (now ranks) ⌝ }
     ensures { λ r.
-        ⌜ Stopped (viewOf (now (p .entry)) (now (grid .entry)) (now (u .entry)) (now (firsts .entry)) start actions) delay
-        (now (ranks .entry)) (now (ranks .exit)) r ⌝ }
+        ⌜ (Stopped (viewOf (now (p .entry)) (now (grid .entry)) (now (u .entry)) (now (firsts .entry)) start actions) delay
+        (now (ranks .entry)) (now (ranks .exit)) r)
+        × (MasksStopped (viewOf (now (p .entry)) (now (grid .entry)) (now (u .entry)) (now (firsts .entry)) start actions) (r .delay)
+        (now (masks .entry)) (now (masks .exit))) ⌝ }
 {
     let mut d: u8 = 0;
     let stop = loop {
         let level = level_at(p.len(), start, actions, d);
         let nodes = level.nodes;
-        let n = rank_level(
+        let n = solve_level(
             p,
             grid,
             u,
@@ -53,6 +56,7 @@ pub(crate) fn search(
             cells,
             level,
             &mut ranks[..nodes],
+            &mut masks[..nodes],
         );
         let wins = some_good(p, grid, level, &ranks[..nodes]);
         if !wins {

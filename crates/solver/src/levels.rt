@@ -3,7 +3,6 @@ use crate::masks::fill_masks;
 use rounds::rounds::rounds;
 use sheet::limits::INDEX;
 use sheet::limits::MOST_MOVES;
-use sheet::limits::MOST_NODES;
 use sheet::limits::ROW;
 use sheet::limits::ROWS;
 use walk::level::Level;
@@ -11,14 +10,15 @@ use worklist::level::work;
 use worklist::spread::CELLS;
 ghost use mathlib.Core.Path.{_≡_};
 ghost use lib.ListN.{length};
-ghost use Rattle.theory.specs.Rounds.{finalRanks, masksBy};
+ghost use Rattle.theory.specs.Rounds.{masksBy};
 ghost use Rattle.walk.specs.code.Levels.{arenaOf};
+ghost use Rattle.walk.specs.code.Nodes.{Sized};
 ghost use Rattle.rounds.specs.code.Falling.{AtMost};
 ghost use Rattle.worklist.specs.Level.{Levelable};
 ghost use Rattle.solver.specs.code.Search.{Leveled};
 
-// The ranks, and the number of rounds.
-pub(crate) fn rank_level(
+// The ranks, and the number of rounds; where words are pending, the masks too.
+pub(crate) fn solve_level(
     p: &[u8],
     grid: &[[u16; ROW]; ROWS],
     u: &[u8],
@@ -29,17 +29,17 @@ pub(crate) fn rank_level(
     cells: &[u16; CELLS],
     level: Level,
     ranks: &mut [u16],
+    masks: &mut [u8],
 ) -> u16
     requires { ⌜ (Levelable (now p) (now grid) (now u) (now firsts) (now reaching) (now lines) (now leading) (now cells) level)
-        × (length (now ranks) ≡ level .nodes) ⌝ }
+        × (length (now ranks) ≡ level .nodes) × (length (now masks) ≡ level .nodes) ⌝ }
     ensures { λ r.
-        ⌜ Leveled (arenaOf (now (p .entry)) (now (grid .entry)) (now (u .entry)) (now (firsts .entry)) level) (now (ranks .exit)) r ⌝ }
+        ⌜ Leveled (arenaOf (now (p .entry)) (now (grid .entry)) (now (u .entry)) (now (firsts .entry)) level) level
+        (now (ranks .exit)) (now (masks .exit)) r ⌝ }
 {
     if level.words == 1 {
         return rounds(p, grid, u, firsts, level, ranks);
     }
-    let mut masks = [0u8; MOST_NODES];
-    let nodes = level.nodes;
     work(
         p,
         grid,
@@ -51,49 +51,28 @@ pub(crate) fn rank_level(
         cells,
         level,
         ranks,
-        &mut masks[..nodes],
+        masks,
     )
 }
 
-// The masks, once the ranks stand. No rank is over n.
+// The masks, once the ranks stand; they do already where words are pending. No rank is over n.
 pub(crate) fn mask_level(
     p: &[u8],
     grid: &[[u16; ROW]; ROWS],
     u: &[u8],
     firsts: &[u16; INDEX],
-    reaching: &[u16; INDEX],
-    lines: &[u16; MOST_MOVES],
-    leading: &[u16; INDEX],
-    cells: &[u16; CELLS],
     level: Level,
     ranks: &[u16],
     n: u16,
     masks: &mut [u8],
 )
-    requires { ⌜ (Levelable (now p) (now grid) (now u) (now firsts) (now reaching) (now lines) (now leading) (now cells) level)
-        × (now ranks ≡ finalRanks (arenaOf (now p) (now grid) (now u) (now firsts) level)) × (AtMost n (now ranks))
-        × (length (now masks) ≡ level .nodes) ⌝ }
+    requires { ⌜ (Sized (length (now p)) level) × (AtMost n (now ranks)) × (length (now masks) ≡ level .nodes)
+        × ((level .words ≡ 1 → ⊥) → now masks ≡ masksBy (arenaOf (now p) (now grid) (now u) (now firsts) level) (now ranks)) ⌝ }
     ensures { λ r.
         ⌜ now (masks .exit)
         ≡ masksBy (arenaOf (now (p .entry)) (now (grid .entry)) (now (u .entry)) (now (firsts .entry)) level) (now (ranks .entry)) ⌝ }
 {
     if level.words == 1 {
         fill_masks(p, grid, u, firsts, level, ranks, n, masks);
-        return;
     }
-    let mut again = [0u16; MOST_NODES];
-    let nodes = level.nodes;
-    work(
-        p,
-        grid,
-        u,
-        firsts,
-        reaching,
-        lines,
-        leading,
-        cells,
-        level,
-        &mut again[..nodes],
-        masks,
-    );
 }

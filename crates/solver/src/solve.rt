@@ -20,9 +20,6 @@ use worklist::index::index;
 use worklist::spread::CELLS;
 ghost use mathlib.Core.Path.{_≡_};
 ghost use Rattle.solver.specs.Solving.{solutionMeans, solving, masksSolved, ranksSolved};
-ghost use Prim.Native.Nat.{_≤_};
-ghost use lib.ListN.{length};
-ghost use Rattle.sheet.specs.Checks.{nodesOf};
 ghost use Rattle.sheet.specs.code.Arrays.{viewOf, bodiesGame};
 ghost use Rattle.solver.specs.code.Search.{Searchable, Fillable, Filled};
 
@@ -49,8 +46,8 @@ fn fill_by(
     masks: &mut [u8],
     ranks: &mut [u16],
 ) -> Stop
-    requires { ⌜ (Searchable (now p) (now grid) (now u) (now firsts) (now reaching) (now lines) (now leading) (now cells) start actions delay
-        (now ranks)) × (nodesOf (length (now p)) actions delay ≤ length (now masks)) ⌝ }
+    requires { ⌜ Searchable (now p) (now grid) (now u) (now firsts) (now reaching) (now lines) (now leading) (now cells) start actions delay
+        (now masks) (now ranks) ⌝ }
     ensures { λ r.
         ⌜ Filled (viewOf (now (p .entry)) (now (grid .entry)) (now (u .entry)) (now (firsts .entry)) start actions) delay
         (now (masks .entry)) (now (ranks .entry)) (now (masks .exit)) (now (ranks .exit)) r ⌝ }
@@ -68,6 +65,7 @@ fn fill_by(
         actions,
         delay,
         ranks,
+        masks,
     );
     let level = level_at(p.len(), start, actions, stop.delay);
     let nodes = level.nodes;
@@ -76,10 +74,6 @@ fn fill_by(
         grid,
         u,
         firsts,
-        reaching,
-        lines,
-        leading,
-        cells,
         level,
         &ranks[..nodes],
         stop.rounds,

@@ -19,7 +19,7 @@ index-requires c κs = (
 fill-by-requires : tie.Need-fill-by-requires
 fill-by-requires c κs =
     let p = c .before .before .before .before .before .before .before .before .before .before .before .before .before .before .before .before .before .before .before .before .before .before .before .before .before .pre in
-    (bodies-can _ _ _ _ _ _ _ _ p _ _ (c .before .before .before .before .before .before .before .before .before .before .before .before .before .before .before .before .before .before .before .grid-of .ensures) (c .before .before .before .before .before .before .before .before .before .before .before .before .before .before .before .before .before .before .first-lines .ensures) _ _ _ _ (c .before .before .before .before .before .before .before .before .before .before .before .before .index .ensures), p .masks-room)
+    bodies-can _ _ _ _ _ _ _ _ p _ _ (c .before .before .before .before .before .before .before .before .before .before .before .before .before .before .before .before .before .before .before .grid-of .ensures) (c .before .before .before .before .before .before .before .before .before .before .before .before .before .before .before .before .before .before .first-lines .ensures) _ _ _ _ (c .before .before .before .before .before .before .before .before .before .before .before .before .index .ensures)
 
 returns : tie.Need-returns
 returns c =
