@@ -11,7 +11,7 @@ use Rattle.walk.specs.code.Levels.{arenaOf}
 use Rattle.walk.specs.code.Nodes.{Sized}
 use Rattle.rounds.specs.code.Falling.{AtMost, RanksLeft}
 use Rattle.rounds.proofs.RankedLaws.{ranked-ranks, ranked-number}
-use Rattle.worklist.specs.Level.{Worked}
+use Rattle.solver.specs.code.Working.{Worked}
 use Rattle.solver.specs.code.Search.{Leveled}
 
 pub level-rounds : (p : List ℕ) (g : List (List ℕ)) (u f : List ℕ) (l : Level) (before : List ℕ) {after left : List ℕ} {n : ℕ} → Sized (length p) l

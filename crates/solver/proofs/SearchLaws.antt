@@ -25,8 +25,8 @@ use Rattle.rounds.specs.code.Falling.{AtMost}
 use Rattle.walk.specs.code.Levels.{Room, levelAt, levelTo}
 use Rattle.solver.specs.code.Kept.{goodIn, firstWords}
 use Rattle.solver.specs.Solving.{solvedDelay}
-use Rattle.worklist.specs.Level.{Levelable}
-use Rattle.worklist.proofs.SheetLaws.{levelable}
+use Rattle.solver.specs.code.Working.{Levelable}
+use Rattle.solver.proofs.SheetLaws.{levelable}
 use Rattle.solver.specs.code.Search.{verdictBy, Stopped, Leveled, MasksStopped, Searchable}
 use Rattle.theory.specs.Buffer.{over}
 use Rattle.walk.proofs.LevelLaws.{level-whole, nodes-less, room-less, level-sized, arena-is, nodes-is}

@@ -45,9 +45,9 @@ use Rattle.solver.specs.code.Search.{verdictBy, Stopped, MasksStopped, S
 use Rattle.theory.specs.Buffer.{over}
 use Rattle.walk.proofs.LevelLaws.{level-whole, nodes-less, room-less, level-sized, arena-is, nodes-is}
 use Rattle.sheet.proofs.Bodies.{bodies-game}
-use Rattle.worklist.specs.Chains.{Indexed, Linked}
-use Rattle.worklist.proofs.ChainLaws.{linked-none}
-use Rattle.worklist.proofs.SheetLaws.{sheet-lines}
+use Rattle.solver.specs.code.Chains.{Indexed, Linked}
+use Rattle.solver.proofs.ChainLaws.{linked-none}
+use Rattle.solver.proofs.SheetLaws.{sheet-lines}
 use Rattle.solver.proofs.SearchLaws.{words-at}
 
 pub length-over : (entries buffer : List ℕ) → length entries ≤ length buffer → length (over entries buffer) ≡ length buffer

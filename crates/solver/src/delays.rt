@@ -1,13 +1,13 @@
 // From delay 0 upward to the asked delay or the first that loses. Nodes grow with the delay, so nothing beyond the owed entries
 // of the two buffers is touched.
 use crate::levels::solve_level;
+use crate::spread::CELLS;
 use crate::words::some_good;
 use sheet::limits::INDEX;
 use sheet::limits::MOST_MOVES;
 use sheet::limits::ROW;
 use sheet::limits::ROWS;
 use walk::level::level_at;
-use worklist::spread::CELLS;
 ghost use Rattle.sheet.specs.code.Arrays.{viewOf};
 ghost use Rattle.solver.specs.code.Search.{Searchable, Stopped, MasksStopped};
 

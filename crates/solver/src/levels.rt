@@ -1,20 +1,20 @@
 // One delay's nodes: by plain rounds where no word is pending, else by the worklist.
 use crate::masks::fill_masks;
+use crate::spread::CELLS;
+use crate::work::work;
 use rounds::rounds::rounds;
 use sheet::limits::INDEX;
 use sheet::limits::MOST_MOVES;
 use sheet::limits::ROW;
 use sheet::limits::ROWS;
 use walk::level::Level;
-use worklist::level::work;
-use worklist::spread::CELLS;
 ghost use mathlib.Core.Path.{_≡_};
 ghost use lib.ListN.{length};
 ghost use Rattle.theory.specs.Rounds.{masksBy};
 ghost use Rattle.walk.specs.code.Levels.{arenaOf};
 ghost use Rattle.walk.specs.code.Nodes.{Sized};
 ghost use Rattle.rounds.specs.code.Falling.{AtMost};
-ghost use Rattle.worklist.specs.Level.{Levelable};
+ghost use Rattle.solver.specs.code.Working.{Levelable};
 ghost use Rattle.solver.specs.code.Search.{Leveled};
 
 // The ranks, and the number of rounds; where words are pending, the masks too.

@@ -1,7 +1,9 @@
 // Solving a game sheet: refusals 1 to 8, the answer, and the masks and ranks in the lent buffers.
 use crate::delays::Stop;
 use crate::delays::search;
+use crate::index::index;
 use crate::levels::mask_level;
+use crate::spread::CELLS;
 use sheet::form::part;
 use sheet::grid::grid_of;
 use sheet::limits::INDEX;
@@ -16,8 +18,6 @@ use sheet::reading::refusal_number;
 use sheet::refusal::Refusal;
 use sheet::refusal::number;
 use walk::level::level_at;
-use worklist::index::index;
-use worklist::spread::CELLS;
 ghost use mathlib.Core.Path.{_≡_};
 ghost use Rattle.solver.specs.Solving.{solutionMeans, solving, masksSolved, ranksSolved};
 ghost use Rattle.sheet.specs.code.Arrays.{viewOf, bodiesGame};

@@ -13,8 +13,8 @@ use Rattle.sheet.specs.code.Arrays.{viewOf, bodiesGame}
 use Rattle.walk.specs.declared.level.Level.{Level}
 use Rattle.walk.specs.code.Levels.{Room}
 use Rattle.rounds.specs.code.Falling.{AtMost}
-use Rattle.worklist.specs.Chains.{Indexed}
-use Rattle.worklist.specs.Level.{Lines}
+use Rattle.solver.specs.code.Chains.{Indexed}
+use Rattle.solver.specs.code.Working.{Lines}
 use Rattle.solver.specs.Solving.{solvedDelay}
 use Rattle.solver.specs.declared.delays.Stop.{Stop}
 
