@@ -290,5 +290,25 @@ module _ (G : Game) (nodes delay : ℕ) (before : List ℕ) where
   pub searched-start : Searched G nodes delay 0 before before
   searched-start = record { asked = omega arith; room = refl; beyond = refl; won = λ j h. absurd (omega arith) }
 
-pub ruleset upward =
-    (needs, searched-start, beyond-start, level-can, masks-inside, masks-front, masks-length, beyond-next, masks-stop, room-here, level-here, start-here, fits-here, front-length, after-length, after-room, after-front, stops-lost, stops-won, searched-next)
+pub ruleset upward = (
+  needs,
+  searched-start,
+  beyond-start,
+  level-can,
+  masks-inside,
+  masks-front,
+  masks-length,
+  beyond-next,
+  masks-stop,
+  room-here,
+  level-here,
+  start-here,
+  fits-here,
+  front-length,
+  after-length,
+  after-room,
+  after-front,
+  stops-lost,
+  stops-won,
+  searched-next,
+)

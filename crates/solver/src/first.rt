@@ -46,7 +46,8 @@ fn first_row(
     requires { ⌜ (Sized (length (now p)) level) × (q < length (now p))
         × (Placed (now p) level full (q * level .words) (work (now ranks) (now masks) (now queue) tail)) ⌝ }
     ensures { λ r.
-        ⌜ Placed (now (p .entry)) level full (q * level .words + level .words) (work (now (ranks .exit)) (now (masks .exit)) (now (queue .exit)) r) ⌝ }
+        ⌜ Placed (now (p .entry)) level full (q * level .words + level .words)
+        (work (now (ranks .exit)) (now (masks .exit)) (now (queue .exit)) r) ⌝ }
 {
     let falls = row_falls(p, level.odd, q);
     let mask = row_mask(p, level.odd, full, q);

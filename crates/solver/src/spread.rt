@@ -99,7 +99,8 @@ fn mark_sources(
     first: usize,
     tail: usize,
 ) -> usize
-    requires { ⌜ (Lent (now ranks) (now masks) (now queue)) × (Spotted spot) × (word < 1048576) × (Down (now lines)) × (first ≤ 4096) ⌝ }
+    requires { ⌜ (Lent (now ranks) (now masks) (now queue)) × (Spotted spot) × (word < 1048576) × (Down (now lines))
+        × (first ≤ 4096) ⌝ }
     ensures { λ r.
         ⌜ work (now (ranks .exit)) (now (masks .exit)) (now (queue .exit)) r
         ≡ marksTo (spot .n) (spot .action) (work (now (ranks .entry)) (now (masks .entry)) (now (queue .entry)) tail)
@@ -129,7 +130,8 @@ pub(crate) fn spread_even(
     first: usize,
     tail: usize,
 ) -> usize
-    requires { ⌜ (Lent (now ranks) (now masks) (now queue)) × (Spotted spot) × (Chains 2048 (now heads) (now cells)) × (Down (now lines)) × (first ≤ 4096) ⌝ }
+    requires { ⌜ (Lent (now ranks) (now masks) (now queue)) × (Spotted spot) × (Chains 2048 (now heads) (now cells))
+        × (Down (now lines)) × (first ≤ 4096) ⌝ }
     ensures { λ r.
         ⌜ work (now (ranks .exit)) (now (masks .exit)) (now (queue .exit)) r
         ≡ marksTo (spot .n) (spot .action) (work (now (ranks .entry)) (now (masks .entry)) (now (queue .entry)) tail)
@@ -159,7 +161,8 @@ pub(crate) fn spread_odd(
     first: usize,
     tail: usize,
 ) -> usize
-    requires { ⌜ (Lent (now ranks) (now masks) (now queue)) × (Spotted spot) × (Chains 4096 (now heads) (now lines)) × (Down (now cells)) × (first ≤ 2048) ⌝ }
+    requires { ⌜ (Lent (now ranks) (now masks) (now queue)) × (Spotted spot) × (Chains 4096 (now heads) (now lines))
+        × (Down (now cells)) × (first ≤ 2048) ⌝ }
     ensures { λ r.
         ⌜ work (now (ranks .exit)) (now (masks .exit)) (now (queue .exit)) r
         ≡ marksTo (spot .n) (spot .action) (work (now (ranks .entry)) (now (masks .entry)) (now (queue .entry)) tail)

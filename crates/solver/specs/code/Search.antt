@@ -44,7 +44,8 @@ pub record MasksStopped (G : Game) (d : ℕ) (before after : List ℕ) : Type 0 
   pub made : (words G d ≡ 1 → ⊥) → take (arena G d .nodes) after ≡ masks (arena G d)
 
 -- the arrays hold a legal game whose numbers have room, and so do the buffers; the chains are those of its lines and cells
-pub record Searchable (p : List ℕ) (g : List (List ℕ)) (u f reaching lines leading cells : List ℕ) (start actions delay : ℕ) (masks ranks : List ℕ) : Type 0 where
+pub record Searchable (p : List ℕ) (g : List (List ℕ)) (u f reaching lines leading cells : List ℕ) (start actions delay : ℕ)
+    (masks ranks : List ℕ) : Type 0 where
   pub room : Room (length p) actions delay
   pub masks-room : nodesOf (length p) actions delay ≤ length masks
   pub ranks-room : nodesOf (length p) actions delay ≤ length ranks

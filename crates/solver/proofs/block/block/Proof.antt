@@ -31,17 +31,23 @@ loop-holds : tie.Need-loop-holds Inv-loop μ-loop
 loop-holds c = (search needs, search needs, search needs, search needs, blocks-start _ _ _ _)
 
 add-b : tie.Need-add-b Inv-loop μ-loop
-add-b c = let f = rows-fit _ _ (c .before .before .before .before .before .before .before .before .before .before .before .before .before .before .before .before .before .before .pre .0) in let t = c .before .before .before .before .before .before .before .before .before .before .loop-test .taken in record { fits = omega arith }
+add-b c =
+    let b10 = c .before .before .before .before .before .before .before .before .before .before in
+    let b18 = b10 .before .before .before .before .before .before .before .before in
+    let f = rows-fit _ _ (b18 .pre .0) in let t = b10 .loop-test .taken in record { fits = omega arith }
 
 loop-again : tie.Need-loop-again Inv-loop μ-loop
-loop-again c =
-    let l = c .before .before .before .before .before .before .before .before .before .before .before .loop in (
-      search needs,
-      search needs,
-      search needs,
-      search needs,
-      blocks-again _ _ _ (l .b) _ (l .inv .4) (c .before .before .before .before .before .before .before .before .before .before .loop-test .taken) (c .before .before .before .before .before .before .block-row .ensures),
-    )
+loop-again c = (
+  search needs,
+  search needs,
+  search needs,
+  search needs,
+  (let b6 = c .before .before .before .before .before .before in
+      let b10 = b6 .before .before .before .before in
+      let b11 = b10 .before in
+      let l = b11 .loop in
+      blocks-again _ _ _ (l .b) _ (l .inv .4) (b10 .loop-test .taken) (b6 .block-row .ensures)),
+)
 
 returns : tie.Need-returns Inv-loop μ-loop
 returns c = let l = c .before .loop in blocks-end _ _ _ (l .b) _ (l .inv .4) (c .loop-test .left)

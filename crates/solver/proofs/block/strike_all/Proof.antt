@@ -21,14 +21,17 @@ abbrev μ-loop : tie.MeasureT-loop
 μ-loop ranks₀ masks₀ queue₀ n k count tail end₀ i₀ ranks masks queue end i = count - i
 
 loop-again : tie.Need-loop-again Inv-loop μ-loop
-loop-again c =
-    let l = c .before .before .before .before .before .before .before .before .before .before .before .loop in (
-      search needs,
-      search needs,
-      search needs,
-      search needs,
-      strikes-again _ _ _ (l .i) _ (l .inv .4) (c .before .before .before .before .before .before .before .before .before .before .loop-test .taken) (c .before .before .before .before .before .before .strike .ensures),
-    )
+loop-again c = (
+  search needs,
+  search needs,
+  search needs,
+  search needs,
+  (let b6 = c .before .before .before .before .before .before in
+      let b10 = b6 .before .before .before .before in
+      let b11 = b10 .before in
+      let l = b11 .loop in
+      strikes-again _ _ _ (l .i) _ (l .inv .4) (b10 .loop-test .taken) (b6 .strike .ensures)),
+)
 
 pub strike-all-spec : {M : Type 1} → statement M
 strike-all-spec =

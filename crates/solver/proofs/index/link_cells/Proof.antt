@@ -17,16 +17,22 @@ abbrev μ-loop : tie.MeasureT-loop
 μ-loop grid heads₀ links₀ i₀ heads links i = 2048 - i
 
 loop-again : tie.Need-loop-again Inv-loop μ-loop
-loop-again c =
-    let l = c .before .before .before .before .before .before .before .before .before .before .loop in
-    let t = c .before .before .before .before .before .before .before .before .before .loop-test .taken in
-    let p = c .before .before .before .before .before .before .before .before .before .before .before .before .before .pre .1 in
-    let e = l .inv .2 in (
-      search needs,
-      search needs,
-      search needs,
-      linked-again _ (l .i) (l .inv .3) (omega arith) (cell-mark _ _ (c .before .before .before .before .before .before .before .before .target .ensures) (c .before .before .before .before .before .before .before .wide16 .ensures .0)) (c .before .before .before .before .link .ensures),
-    )
+loop-again c = (
+  search needs,
+  search needs,
+  search needs,
+  (let b4 = c .before .before .before .before in
+      let b7 = b4 .before .before .before in
+      let b8 = b7 .before in
+      let b9 = b8 .before in
+      let b10 = b9 .before in
+      let b13 = b10 .before .before .before in
+      let l = b10 .loop in
+      let t = b9 .loop-test .taken in
+      let p = b13 .pre .1 in
+      let e = l .inv .2 in
+      linked-again _ (l .i) (l .inv .3) (omega arith) (cell-mark _ _ (b8 .target .ensures) (b7 .wide16 .ensures .0)) (b4 .link .ensures)),
+)
 
 returns : tie.Need-returns Inv-loop μ-loop
 returns c =

@@ -18,17 +18,24 @@ abbrev μ-loop : tie.MeasureT-loop
 μ-loop u heads₀ links₀ n i₀ heads links i = lineCount u - i
 
 loop-again : tie.Need-loop-again Inv-loop μ-loop
-loop-again c =
-    let l = c .before .before .before .before .before .before .before .before .before .before .loop in
-    let n = c .before .before .before .before .before .before .before .before .before .before .before .line-count .ensures in
-    let t = c .before .before .before .before .before .before .before .before .before .loop-test .taken in
-    let p = c .before .before .before .before .before .before .before .before .before .before .before .before .before .before .before .pre .1 in
-    let e = l .inv .2 in (
-      search needs,
-      search needs,
-      search needs,
-      linked-again _ (l .i) (l .inv .3) (omega arith) (to-key _ _ (c .before .before .before .before .before .before .before .wide .ensures .0) (c .before .before .before .before .before .before .before .before .byte .ensures)) (c .before .before .before .before .link .ensures),
-    )
+loop-again c = (
+  search needs,
+  search needs,
+  search needs,
+  (let b4 = c .before .before .before .before in
+      let b7 = b4 .before .before .before in
+      let b8 = b7 .before in
+      let b9 = b8 .before in
+      let b10 = b9 .before in
+      let b11 = b10 .before in
+      let b15 = b11 .before .before .before .before in
+      let l = b10 .loop in
+      let n = b11 .line-count .ensures in
+      let t = b9 .loop-test .taken in
+      let p = b15 .pre .1 in
+      let e = l .inv .2 in
+      linked-again _ (l .i) (l .inv .3) (omega arith) (to-key _ _ (b7 .wide .ensures .0) (b8 .byte .ensures)) (b4 .link .ensures)),
+)
 
 returns : tie.Need-returns Inv-loop μ-loop
 returns c =

@@ -18,12 +18,21 @@ index-requires c κs = (
 
 fill-by-requires : tie.Need-fill-by-requires
 fill-by-requires c κs =
-    let p = c .before .before .before .before .before .before .before .before .before .before .before .before .before .before .before .before .before .before .before .before .before .before .before .before .before .pre in
-    bodies-can _ _ _ _ _ _ _ _ p _ _ (c .before .before .before .before .before .before .before .before .before .before .before .before .before .before .before .before .before .before .before .grid-of .ensures) (c .before .before .before .before .before .before .before .before .before .before .before .before .before .before .before .before .before .before .first-lines .ensures) _ _ _ _ (c .before .before .before .before .before .before .before .before .before .before .before .before .index .ensures)
+    let b12 = c .before .before .before .before .before .before .before .before .before .before .before .before in
+    let b18 = b12 .before .before .before .before .before .before in
+    let b19 = b18 .before in
+    let b25 = b19 .before .before .before .before .before .before in
+    let p = b25 .pre in
+    bodies-can _ _ _ _ _ _ _ _ p _ _ (b19 .grid-of .ensures) (b18 .first-lines .ensures) _ _ _ _ (b12 .index .ensures)
 
 returns : tie.Need-returns
 returns c =
-    bodies-filled _ _ _ _ _ _ _ _ (c .before .before .before .before .before .before .before .before .before .before .before .before .before .before .before .before .before .before .before .before .before .before .before .before .before .before .before .before .before .before .pre) _ _ (c .before .before .before .before .before .before .before .before .before .before .before .before .before .before .before .before .before .before .before .before .before .before .before .before .grid-of .ensures) (c .before .before .before .before .before .before .before .before .before .before .before .before .before .before .before .before .before .before .before .before .before .before .before .first-lines .ensures) (c .before .before .before .before .fill-by .ensures)
+    let b4 = c .before .before .before .before in
+    let b14 = b4 .before .before .before .before .before .before .before .before .before .before in
+    let b23 = b14 .before .before .before .before .before .before .before .before .before in
+    let b24 = b23 .before in
+    let b30 = b24 .before .before .before .before .before .before in
+    bodies-filled _ _ _ _ _ _ _ _ (b30 .pre) _ _ (b24 .grid-of .ensures) (b23 .first-lines .ensures) (b4 .fill-by .ensures)
 
 pub fill-spec : {M : Type 1} → statement M
 fill-spec =

@@ -16,8 +16,12 @@ mask-level-requires c κs =
 
 returns : tie.Need-returns
 returns c =
-    let s = c .before .before .before .before .before .before .before .before .before .before .search .ensures in
-    fills _ _ _ _ _ _ _ _ _ _ _ _ _ (c .before .before .before .before .before .before .before .before .before .before .before .before .before .before .before .before .before .pre) _ _ _ (s .0) (s .1) _ (c .before .before .before .before .before .level-at .ensures) (c .before .before .mask-level .ensures)
+    let b2 = c .before .before in
+    let b5 = b2 .before .before .before in
+    let b10 = b5 .before .before .before .before .before in
+    let b17 = b10 .before .before .before .before .before .before .before in
+    let s = b10 .search .ensures in
+    fills _ _ _ _ _ _ _ _ _ _ _ _ _ (b17 .pre) _ _ _ (s .0) (s .1) _ (b5 .level-at .ensures) (b2 .mask-level .ensures)
 
 pub fill-by-spec : {M : Type 1} → statement M
 fill-by-spec =

@@ -24,22 +24,40 @@ abbrev μ-loop : tie.MeasureT-loop
 
 loop-less : tie.Need-loop-less Inv-loop μ-loop
 loop-less c =
-    let l = c .before .before .before .before .before .before .before .before .before .before .before .before .before .before .loop in
-    link-less _ (l .e) (c .before .before .before .before .before .before .before .before .before .before .before .before .before .before .before .before .before .before .before .pre .3) (c .before .before .before .before .before .before .before .before .before .before .before .before .before .loop-test .taken) (c .wide16 .ensures .0)
+    let b13 = c .before .before .before .before .before .before .before .before .before .before .before .before .before in
+    let b14 = b13 .before in
+    let b19 = b14 .before .before .before .before .before in
+    let l = b14 .loop in
+    link-less _ (l .e) (b19 .pre .3) (b13 .loop-test .taken) (c .wide16 .ensures .0)
 
 loop-again : tie.Need-loop-again Inv-loop μ-loop
-loop-again c =
-    let l = c .before .before .before .before .before .before .before .before .before .before .before .before .before .before .loop in
-    let d = c .before .before .before .before .before .before .before .before .before .before .before .before .before .before .before .before .before .before .before .pre .3 in
-    let t = c .before .before .before .before .before .before .before .before .before .before .before .before .before .loop-test .taken in
-    let s = link-less _ (l .e) d t (c .wide16 .ensures .0) in
-    let i = l .inv .0 in (
-      omega arith,
-      search needs,
-      search needs,
-      search needs,
-      l .inv .4 ∙ sources-next _ _ d _ _ _ _ (l .e) _ t (c .before .before .before .before .before .before .before .before .before .before .before .before .source-at .ensures) (c .before .before .before .before .before .before .before .before .mark .ensures) (c .wide16 .ensures .0),
-    )
+loop-again c = (
+  (let b8 = c .before .before .before .before .before .before .before .before in
+      let b12 = b8 .before .before .before .before in
+      let b13 = b12 .before in
+      let b14 = b13 .before in
+      let b19 = b14 .before .before .before .before .before in
+      let l = b14 .loop in
+      let d = b19 .pre .3 in
+      let t = b13 .loop-test .taken in
+      let s = link-less _ (l .e) d t (c .wide16 .ensures .0) in
+      let i = l .inv .0 in
+      omega arith),
+  search needs,
+  search needs,
+  search needs,
+  (let b8 = c .before .before .before .before .before .before .before .before in
+      let b12 = b8 .before .before .before .before in
+      let b13 = b12 .before in
+      let b14 = b13 .before in
+      let b19 = b14 .before .before .before .before .before in
+      let l = b14 .loop in
+      let d = b19 .pre .3 in
+      let t = b13 .loop-test .taken in
+      let s = link-less _ (l .e) d t (c .wide16 .ensures .0) in
+      let i = l .inv .0 in
+      l .inv .4 ∙ sources-next _ _ d _ _ _ _ (l .e) _ t (b12 .source-at .ensures) (b8 .mark .ensures) (c .wide16 .ensures .0)),
+)
 
 returns : tie.Need-returns Inv-loop μ-loop
 returns c =

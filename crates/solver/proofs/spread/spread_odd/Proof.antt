@@ -29,22 +29,42 @@ mark-sources-requires c κs =
 
 loop-less : tie.Need-loop-less Inv-loop μ-loop
 loop-less c =
-    let l = c .before .before .before .before .before .before .before .before .before .before .before .before .before .before .before .loop in
-    link-less _ (l .e) (c .before .before .before .before .before .before .before .before .before .before .before .before .before .before .before .before .before .before .before .before .pre .3) (c .before .before .before .before .before .before .before .before .before .before .before .before .before .before .loop-test .taken) (c .wide16 .ensures .0)
+    let b14 = c .before .before .before .before .before .before .before .before .before .before .before .before .before .before in
+    let b15 = b14 .before in
+    let b20 = b15 .before .before .before .before .before in
+    let l = b15 .loop in
+    link-less _ (l .e) (b20 .pre .3) (b14 .loop-test .taken) (c .wide16 .ensures .0)
 
 loop-again : tie.Need-loop-again Inv-loop μ-loop
-loop-again c =
-    let l = c .before .before .before .before .before .before .before .before .before .before .before .before .before .before .before .loop in
-    let d = c .before .before .before .before .before .before .before .before .before .before .before .before .before .before .before .before .before .before .before .before .pre .3 in
-    let t = c .before .before .before .before .before .before .before .before .before .before .before .before .before .before .loop-test .taken in
-    let s = link-less _ (l .e) d t (c .wide16 .ensures .0) in
-    let i = l .inv .0 in (
-      omega arith,
-      search needs,
-      search needs,
-      search needs,
-      odd-again _ _ _ _ _ _ _ d (l .e) _ (l .inv .4) t (c .before .before .before .before .before .before .before .before .before .before .word-at .ensures .0) (c .before .before .before .before .before .before .before .before .before .head .ensures) (c .before .before .before .before .before .before .before .before .mark-sources .ensures) (c .wide16 .ensures .0),
-    )
+loop-again c = (
+  (let b8 = c .before .before .before .before .before .before .before .before in
+      let b9 = b8 .before in
+      let b10 = b9 .before in
+      let b14 = b10 .before .before .before .before in
+      let b15 = b14 .before in
+      let b20 = b15 .before .before .before .before .before in
+      let l = b15 .loop in
+      let d = b20 .pre .3 in
+      let t = b14 .loop-test .taken in
+      let s = link-less _ (l .e) d t (c .wide16 .ensures .0) in
+      let i = l .inv .0 in
+      omega arith),
+  search needs,
+  search needs,
+  search needs,
+  (let b8 = c .before .before .before .before .before .before .before .before in
+      let b9 = b8 .before in
+      let b10 = b9 .before in
+      let b14 = b10 .before .before .before .before in
+      let b15 = b14 .before in
+      let b20 = b15 .before .before .before .before .before in
+      let l = b15 .loop in
+      let d = b20 .pre .3 in
+      let t = b14 .loop-test .taken in
+      let s = link-less _ (l .e) d t (c .wide16 .ensures .0) in
+      let i = l .inv .0 in
+      odd-again _ _ _ _ _ _ _ d (l .e) _ (l .inv .4) t (b10 .word-at .ensures .0) (b9 .head .ensures) (b8 .mark-sources .ensures) (c .wide16 .ensures .0)),
+)
 
 returns : tie.Need-returns Inv-loop μ-loop
 returns c =

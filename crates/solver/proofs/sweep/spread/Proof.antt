@@ -18,7 +18,11 @@ spread-odd-requires c κs =
 
 returns : tie.Need-returns
 returns c =
-    spread-odd-is _ _ _ _ _ _ (c .before .before .before .before .before .before .before .before .before .before .before .before .before .spot-at .ensures .0) (c .before .before .before .before .before .before .before .before .before .before .before .if1 .taken) (c .before .before .before .before .before .before .before .head .ensures) (c .before .before .before .before .before .before .spread-odd .ensures)
+    let b6 = c .before .before .before .before .before .before in
+    let b7 = b6 .before in
+    let b11 = b7 .before .before .before .before in
+    let b13 = b11 .before .before in
+    spread-odd-is _ _ _ _ _ _ (b13 .spot-at .ensures .0) (b11 .if1 .taken) (b7 .head .ensures) (b6 .spread-odd .ensures)
 
 spread-even-requires : tie.Need-spread-even-requires
 spread-even-requires c κs =
@@ -27,7 +31,11 @@ spread-even-requires c κs =
 
 returns-2 : tie.Need-returns-2
 returns-2 c =
-    spread-even-is _ _ _ _ _ _ (c .before .before .before .before .before .before .before .before .before .before .before .before .before .spot-at .ensures .0) (c .before .before .before .before .before .before .before .before .before .before .before .if1 .left) (c .before .before .before .before .before .before .before .head2 .ensures) (c .before .before .before .before .before .before .spread-even .ensures)
+    let b6 = c .before .before .before .before .before .before in
+    let b7 = b6 .before in
+    let b11 = b7 .before .before .before .before in
+    let b13 = b11 .before .before in
+    spread-even-is _ _ _ _ _ _ (b13 .spot-at .ensures .0) (b11 .if1 .left) (b7 .head2 .ensures) (b6 .spread-even .ensures)
 
 pub spread-spec : {M : Type 1} → statement M
 spread-spec =

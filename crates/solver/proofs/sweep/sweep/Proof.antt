@@ -25,13 +25,17 @@ spread-requires : tie.Need-spread-requires Inv-loop μ-loop
 spread-requires c κs = let p = c .before .before .before .before .before .before .before .before .before .before .before .pre in (search needs, p .1, p .2, p .3, p .4)
 
 loop-again : tie.Need-loop-again Inv-loop μ-loop
-loop-again c =
-    let l = c .before .before .before .before .before .before .before .before .before .before .before .before .before .loop in (
-      search needs,
-      search needs,
-      search needs,
-      sweep-again _ _ _ _ _ (l .at) _ (l .inv .3) (c .before .before .before .before .before .before .before .before .before .before .before .before .loop-test .taken) (c .before .before .before .before .before .before .before .before .before .before .wide16 .ensures .0) (c .before .before .before .before .before .before .spread .ensures),
-    )
+loop-again c = (
+  search needs,
+  search needs,
+  search needs,
+  (let b6 = c .before .before .before .before .before .before in
+      let b10 = b6 .before .before .before .before in
+      let b12 = b10 .before .before in
+      let b13 = b12 .before in
+      let l = b13 .loop in
+      sweep-again _ _ _ _ _ (l .at) _ (l .inv .3) (b12 .loop-test .taken) (b10 .wide16 .ensures .0) (b6 .spread .ensures)),
+)
 
 returns : tie.Need-returns Inv-loop μ-loop
 returns c = let l = c .before .loop in sweep-end _ _ _ _ _ (l .at) _ (l .inv .3) (c .loop-test .left)

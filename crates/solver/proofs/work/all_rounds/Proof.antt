@@ -25,43 +25,85 @@ first-requires c κs = let p = c .before .before .before .before .before .before
 
 block-requires : tie.Need-block-requires Inv-loop μ-loop
 block-requires c κs =
-    let p = c .before .before .before .before .before .before .before .before .before .before .before .before .before .before .before .before .before .before .before .pre in
-    (p .0 .sized, p .0 .fits, start-lent _ _ _ _ _ _ _ _ _ _ (p .0) _ (c .before .before .before .before .before .before .before .before .before .before .before .before .before .full-mask .ensures) (c .before .before .before .before .before .before .before .before .before .first .ensures))
+    let b9 = c .before .before .before .before .before .before .before .before .before in
+    let b13 = b9 .before .before .before .before in
+    let b19 = b13 .before .before .before .before .before .before in
+    let p = b19 .pre in
+    (p .0 .sized, p .0 .fits, start-lent _ _ _ _ _ _ _ _ _ _ (p .0) _ (b13 .full-mask .ensures) (b9 .first .ensures))
 
 loop-holds : tie.Need-loop-holds Inv-loop μ-loop
 loop-holds c =
-    let p = c .before .before .before .before .before .before .before .before .before .before .before .before .before .before .before .before .before .before .before .before .before .before .before .before .before .before .pre in (
+    let b6 = c .before .before .before .before .before .before in
+    let b16 = b6 .before .before .before .before .before .before .before .before .before .before in
+    let b20 = b16 .before .before .before .before in
+    let b26 = b20 .before .before .before .before .before .before in
+    let p = b26 .pre in (
       search needs,
       search needs,
       search needs,
-      start-rounds _ _ _ _ _ _ _ _ _ _ (p .0) _ (c .before .before .before .before .before .before .before .before .before .before .before .before .before .before .before .before .before .before .before .before .full-mask .ensures) (c .before .before .before .before .before .before .before .before .before .before .before .before .before .before .before .before .first .ensures) (c .before .before .before .before .before .before .block .ensures),
+      start-rounds _ _ _ _ _ _ _ _ _ _ (p .0) _ (b20 .full-mask .ensures) (b16 .first .ensures) (b6 .block .ensures),
     )
 
 sweep-requires : tie.Need-sweep-requires Inv-loop μ-loop
 sweep-requires c κs =
-    let p = c .before .before .before .before .before .before .before .before .before .before .before .before .before .before .before .before .before .before .before .before .before .before .before .before .before .before .before .before .before .before .pre .0 in
-    let l = c .before .before .before .loop in
-    (round-lent _ _ _ _ _ _ _ _ _ _ (c .before .before .before .before .before .before .before .before .before .before .before .before .before .before .before .before .before .before .before .before .before .before .before .before .before .before .before .before .before .before .pre .0) _ (l .lo) (l .hi) _ (l .inv .3), p .fits, round-few _ _ _ _ _ _ _ _ _ _ (c .before .before .before .before .before .before .before .before .before .before .before .before .before .before .before .before .before .before .before .before .before .before .before .before .before .before .before .before .before .before .pre .0) _ (l .lo) (l .hi) _ (l .inv .3), p .line-chains, p .cell-chains, round-queue _ _ _ _ _ _ _ _ _ _ (c .before .before .before .before .before .before .before .before .before .before .before .before .before .before .before .before .before .before .before .before .before .before .before .before .before .before .before .before .before .before .pre .0) _ (l .lo) (l .hi) _ (l .inv .3))
+    let b3 = c .before .before .before in
+    let b13 = b3 .before .before .before .before .before .before .before .before .before .before in
+    let b23 = b13 .before .before .before .before .before .before .before .before .before .before in
+    let b30 = b23 .before .before .before .before .before .before .before in
+    let p = b30 .pre .0 in
+    let l = b3 .loop in
+    let r = l .inv .3 in (
+      round-lent _ _ _ _ _ _ _ _ _ _ p _ _ _ _ r,
+      p .fits,
+      round-few _ _ _ _ _ _ _ _ _ _ p _ _ _ _ r,
+      p .line-chains,
+      p .cell-chains,
+      round-queue _ _ _ _ _ _ _ _ _ _ p _ _ _ _ r,
+    )
 
 add-n : tie.Need-add-n Inv-loop μ-loop
-add-n c = let l = c .before .before .before .before .before .before .before .before .before .before .before .loop in let f = round-few _ _ _ _ _ _ _ _ _ _ (c .before .before .before .before .before .before .before .before .before .before .before .before .before .before .before .before .before .before .before .before .before .before .before .before .before .before .before .before .before .before .before .before .before .before .before .before .before .before .pre .0) _ (l .lo) (l .hi) _ (l .inv .3) in record { fits = omega arith }
+add-n c =
+    let b11 = c .before .before .before .before .before .before .before .before .before .before .before in
+    let b21 = b11 .before .before .before .before .before .before .before .before .before .before in
+    let b31 = b21 .before .before .before .before .before .before .before .before .before .before in
+    let b38 = b31 .before .before .before .before .before .before .before in
+    let l = b11 .loop in let f = round-few _ _ _ _ _ _ _ _ _ _ (b38 .pre .0) _ (l .lo) (l .hi) _ (l .inv .3) in record { fits = omega arith }
 
 loop-less : tie.Need-loop-less Inv-loop μ-loop
 loop-less c =
-    let l = c .before .before .before .before .before .before .before .before .before .before .before .loop in
-    let m = round-more _ _ _ _ _ _ _ _ _ _ (c .before .before .before .before .before .before .before .before .before .before .before .before .before .before .before .before .before .before .before .before .before .before .before .before .before .before .before .before .before .before .before .before .before .before .before .before .before .before .pre .0) _ (l .lo) (l .hi) _ (l .inv .3) (c .before .before .before .before .before .before .before .sweep .ensures) (c .if1 .left) in
-    let i = next-inside _ _ _ _ _ _ _ _ _ _ (c .before .before .before .before .before .before .before .before .before .before .before .before .before .before .before .before .before .before .before .before .before .before .before .before .before .before .before .before .before .before .before .before .before .before .before .before .before .before .pre .0) _ (l .lo) (l .hi) _ (l .inv .3) (c .before .before .before .before .before .before .before .sweep .ensures) in
+    let b7 = c .before .before .before .before .before .before .before in
+    let b11 = b7 .before .before .before .before in
+    let b21 = b11 .before .before .before .before .before .before .before .before .before .before in
+    let b31 = b21 .before .before .before .before .before .before .before .before .before .before in
+    let b38 = b31 .before .before .before .before .before .before .before in
+    let l = b11 .loop in
+    let m = round-more _ _ _ _ _ _ _ _ _ _ (b38 .pre .0) _ (l .lo) (l .hi) _ (l .inv .3) (b7 .sweep .ensures) (c .if1 .left) in
+    let i = next-inside _ _ _ _ _ _ _ _ _ _ (b38 .pre .0) _ (l .lo) (l .hi) _ (l .inv .3) (b7 .sweep .ensures) in
     omega arith
 
 loop-again : tie.Need-loop-again Inv-loop μ-loop
-loop-again c =
-    let l = c .before .before .before .before .before .before .before .before .before .before .before .loop in
-    (search needs, search needs, search needs, round-next _ _ _ _ _ _ _ _ _ _ (c .before .before .before .before .before .before .before .before .before .before .before .before .before .before .before .before .before .before .before .before .before .before .before .before .before .before .before .before .before .before .before .before .before .before .before .before .before .before .pre .0) _ (l .lo) (l .hi) _ (l .inv .3) (c .before .before .before .before .before .before .before .sweep .ensures) (c .if1 .left))
+loop-again c = (
+  search needs,
+  search needs,
+  search needs,
+  (let b7 = c .before .before .before .before .before .before .before in
+      let b11 = b7 .before .before .before .before in
+      let b21 = b11 .before .before .before .before .before .before .before .before .before .before in
+      let b31 = b21 .before .before .before .before .before .before .before .before .before .before in
+      let b38 = b31 .before .before .before .before .before .before .before in
+      let l = b11 .loop in
+      round-next _ _ _ _ _ _ _ _ _ _ (b38 .pre .0) _ (l .lo) (l .hi) _ (l .inv .3) (b7 .sweep .ensures) (c .if1 .left)),
+)
 
 returns : tie.Need-returns Inv-loop μ-loop
 returns c =
-    let l = c .before .before .before .before .before .before .before .before .before .before .before .loop in
-    round-over _ _ _ _ _ _ _ _ _ _ (c .before .before .before .before .before .before .before .before .before .before .before .before .before .before .before .before .before .before .before .before .before .before .before .before .before .before .before .before .before .before .before .before .before .before .before .before .before .before .pre .0) _ (l .lo) (l .hi) _ (l .inv .3) (c .before .before .before .before .before .before .before .sweep .ensures) (c .if1 .taken)
+    let b7 = c .before .before .before .before .before .before .before in
+    let b11 = b7 .before .before .before .before in
+    let b21 = b11 .before .before .before .before .before .before .before .before .before .before in
+    let b31 = b21 .before .before .before .before .before .before .before .before .before .before in
+    let b38 = b31 .before .before .before .before .before .before .before in
+    let l = b11 .loop in
+    round-over _ _ _ _ _ _ _ _ _ _ (b38 .pre .0) _ (l .lo) (l .hi) _ (l .inv .3) (b7 .sweep .ensures) (c .if1 .taken)
 
 pub all-rounds-spec : {M : Type 1} → statement M
 all-rounds-spec =

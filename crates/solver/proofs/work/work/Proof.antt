@@ -12,7 +12,9 @@ slice-aggregate-all-rounds : tie.Need-slice-aggregate-all-rounds
 slice-aggregate-all-rounds c = queue-part _ _ (length-replicate {A = ℕ} 16384 0) (c .before .before .before .before .before .before .before .before .pre .0 .sized .few-nodes)
 
 all-rounds-requires : tie.Need-all-rounds-requires
-all-rounds-requires c κs = let p = c .before .before .before .before .before .before .before .before .pre in (p .0, p .1, p .2, sym (queue-part _ _ (length-replicate {A = ℕ} 16384 0) (p .0 .sized .few-nodes)))
+all-rounds-requires c κs =
+    let b8 = c .before .before .before .before .before .before .before .before in
+    let p = b8 .pre in (p .0, p .1, p .2, sym (queue-part _ _ (length-replicate {A = ℕ} 16384 0) (p .0 .sized .few-nodes)))
 
 pub work-spec : {M : Type 1} → statement M
 work-spec =
