@@ -1,7 +1,24 @@
 -- Laws of the definitions of specs/, on which the proofs of the functions rest.
 pub mod GoodLaws
 pub mod MaskLaws
+pub mod BitLaws
+pub mod StateLaws
+pub mod RoundLaws
+pub mod MarkLaws
+pub mod ChainLaws
+pub mod SpreadLaws
+pub mod SweepLaws
+pub mod BeforeLaws
+pub mod ReadyLaws
+pub mod FirstLaws
+pub mod StartLaws
+pub mod BlockLaws
+pub mod BlockCode
+pub mod WorkLaws
+pub mod IndexLaws
+pub mod SheetLaws
 pub mod SearchLaws
+pub mod LevelLaws
 pub mod SolveLaws
 pub mod FlagLaws
 pub mod Cases

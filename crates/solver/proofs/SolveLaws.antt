@@ -1,12 +1,12 @@
 -- Filling both buffers, and solving, as the code of src/solve.rt finds them. Assumes nothing.
-use Prim.Native.Nat.{ℕ, _≤_, _<_}
+use Prim.Native.Nat.{ℕ, zero, suc, _≤_, _<_}
 use mathlib.Core.Path.{_≡_, refl, sym, _∙_, ap}
 use mathlib.Core.Bool.{Bool, true, false}
 use mathlib.Core.List.{List, _++_}
 use native.Mathlib.Omega.{arith}
 use native.Mathlib.Nat.{le-refl}
 use lib.Dec.{leb}
-use lib.ListN.{length, take, drop, length-append, length-drop}
+use lib.ListN.{length, getD, replicate, take, drop, length-append, length-drop, length-replicate}
 use lib.Seq.{take-at, length-take-le}
 use borrow.Author.Needs.{needs}
 use borrow.Author.Tests.{le-leb, lt-leb}
@@ -41,10 +41,14 @@ use Rattle.rounds.specs.code.Falling.{AtMost}
 use Rattle.solver.specs.declared.delays.Stop.{Stop}
 use Rattle.walk.specs.code.Levels.{Room, levelAt, levelTo}
 use Rattle.solver.specs.Solving.{solveAnswer, solvedDelay, masksLeft, ranksLeft}
-use Rattle.solver.specs.code.Search.{verdictBy, Stopped, Fillable, Filled}
+use Rattle.solver.specs.code.Search.{verdictBy, Stopped, MasksStopped, Searchable, Fillable, Filled}
 use Rattle.theory.specs.Buffer.{over}
 use Rattle.walk.proofs.LevelLaws.{level-whole, nodes-less, room-less, level-sized, arena-is, nodes-is}
 use Rattle.sheet.proofs.Bodies.{bodies-game}
+use Rattle.solver.specs.code.Chains.{Indexed, Linked}
+use Rattle.solver.proofs.ChainLaws.{linked-none}
+use Rattle.solver.proofs.SheetLaws.{sheet-lines}
+use Rattle.solver.proofs.SearchLaws.{words-at}
 
 pub length-over : (entries buffer : List ℕ) → length entries ≤ length buffer → length (over entries buffer) ≡ length buffer
 unfolding over
@@ -57,29 +61,22 @@ unfolding solvedDelay
 stop-within G legal d wins e = le-refl d
 stop-within G legal d (losing m) e = answer-least G legal d m e .asked
 
--- both buffers of a sheet's bodies: g and f are the arrays made of them, r is where the search stopped, with the ranks in after
-module _ (p c u : List ℕ) (start actions delay : ℕ) (before-masks before : List ℕ)
-    (fillable : Fillable p c u start actions delay before-masks before)
-    (g : List (List ℕ)) (f : List ℕ) (eg : g ≡ gridOf c) (ef : f ≡ firstsOf u) where
+-- both buffers, by the arrays: r is where the search stopped, with the ranks in after
+module _ (p : List ℕ) (g : List (List ℕ)) (u f reaching lines leading cells : List ℕ) (start actions delay : ℕ) (before-masks before : List ℕ)
+    (can : Searchable p g u f reaching lines leading cells start actions delay before-masks before) where
   abbrev G : Game
   G = viewOf p g u f start actions
 
-  game-here : bodiesGame p c u start actions ≡ G
-  unfolding bodiesGame
-  game-here = rw (eg, ef)
-
-  pub legal-here : Legal G
-  legal-here = rw game-here at (fillable .legal)
-
-  module _ (after : List ℕ) (r : Stop) (stopped : Stopped G delay before after r) where
+  module _ (after-masks after : List ℕ) (r : Stop) (stopped : Stopped G delay before after r)
+      (left : MasksStopped G (r .delay) before-masks after-masks) where
     within : r .delay ≤ delay
-    within = rw (stopped .delay) (stop-within G legal-here delay (answer G delay) refl)
+    within = rw (stopped .delay) (stop-within G (can .legal) delay (answer G delay) refl)
 
     pub room-stop : Room (length p) actions (r .delay)
-    room-stop = room-less (fillable .room) within
+    room-stop = room-less (can .room) within
 
     few : nodesOf (length p) actions (r .delay) ≤ nodesOf (length p) actions delay
-    few = nodes-less (fillable .room) within
+    few = nodes-less (can .room) within
 
     ranks-length : length (finalRanks (arena G (r .delay))) ≡ nodesOf (length p) actions (r .delay)
     ranks-length = final-length (arena G (r .delay)) ∙ nodes-is p g u f start actions (r .delay)
@@ -87,7 +84,7 @@ module _ (p c u : List ℕ) (start actions delay : ℕ) (before-masks before : L
     pub after-length : length after ≡ length before
     after-length =
         let e = ranks-length in
-        let h = fillable .ranks-room in
+        let h = can .ranks-room in
         let i = few in
         rw (stopped .ranks) (length-over (finalRanks (arena G (r .delay))) before (omega arith))
 
@@ -102,13 +99,13 @@ module _ (p c u : List ℕ) (start actions delay : ℕ) (before-masks before : L
       sized-stop = rw is (level-sized room-stop start)
 
       pub ranks-room : l .nodes ≤ length after
-      ranks-room = let e = level-nodes in let h = fillable .ranks-room in let i = few in let n = after-length in omega arith
+      ranks-room = let e = level-nodes in let h = can .ranks-room in let i = few in let n = after-length in omega arith
 
-      pub masks-room : l .nodes ≤ length before-masks
-      masks-room = let e = level-nodes in let h = fillable .masks-room in let i = few in omega arith
+      pub masks-room : l .nodes ≤ length after-masks
+      masks-room = let e = level-nodes in let h = can .masks-room in let i = few in let n = left .size in omega arith
 
-      pub masks-front : length (take (l .nodes) before-masks) ≡ l .nodes
-      masks-front = length-take-le (l .nodes) before-masks masks-room
+      pub masks-front : length (take (l .nodes) after-masks) ≡ l .nodes
+      masks-front = length-take-le (l .nodes) after-masks masks-room
 
       ranks-front : take (l .nodes) after ≡ finalRanks (arena G (r .delay))
       unfolding over
@@ -136,27 +133,79 @@ module _ (p c u : List ℕ) (start actions delay : ℕ) (before-masks before : L
           ∙ nodes-is p g u f start actions (r .delay)
           ∙ sym level-nodes
 
+      -- the search left them where words are pending
+      pub masks-ready : (l .words ≡ 1 → ⊥) → take (l .nodes) after-masks ≡ masksBy (arenaOf p g u f l) (take (l .nodes) after)
+      unfolding masks
+      masks-ready many =
+          ap (λ (x : ℕ). take x after-masks) (level-nodes ∙ sym (nodes-is p g u f start actions (r .delay)))
+          ∙ left .made (λ one. many (ap (λ (x : Level). x .words) is ∙ sym (words-at p g u f start actions (r .delay)) ∙ one))
+          ∙ sym (masks-made refl)
+
       pub masks-length : {m : List ℕ} → m ≡ masksBy (arenaOf p g u f l) (take (l .nodes) after)
-          → length (m ++ drop (l .nodes) before-masks) ≡ length before-masks
+          → length (m ++ drop (l .nodes) after-masks) ≡ length before-masks
       masks-length {m} e =
           let n = masks-made-length e in
           let h = masks-room in
-          rw (length-append m (drop (l .nodes) before-masks), length-drop (l .nodes) before-masks) (omega arith)
+          let k = left .size in
+          rw (length-append m (drop (l .nodes) after-masks), length-drop (l .nodes) after-masks) (omega arith)
+
+      rest-is : drop (l .nodes) after-masks ≡ drop (l .nodes) before-masks
+      rest-is =
+          let q : l .nodes ≡ arena G (r .delay) .nodes = level-nodes ∙ sym (nodes-is p g u f start actions (r .delay)) in
+          ap (λ (x : ℕ). drop x after-masks) q ∙ left .beyond ∙ ap (λ (x : ℕ). drop x before-masks) (sym q)
 
       pub fills : {m : List ℕ} → m ≡ masksBy (arenaOf p g u f l) (take (l .nodes) after)
-          → Filled (bodiesGame p c u start actions) delay before-masks before (m ++ drop (l .nodes) before-masks) after r
+          → Filled G delay before-masks before (m ++ drop (l .nodes) after-masks) after r
       unfolding over
       fills {m} e =
-          rw game-here
-          (record {
+          record {
             stopped = stopped;
             masks =
-                ap (λ x. m ++ drop x before-masks) (sym (masks-made-length e))
+                ap (λ x. m ++ x) rest-is
+                ∙ ap (λ x. m ++ drop x before-masks) (sym (masks-made-length e))
                 ∙ ap (λ (x : List ℕ). x ++ drop (length x) before-masks) (masks-made e);
-          })
+          }
 
 pub ruleset filling =
-    (needs, legal-here, room-stop, after-length, sized-stop, ranks-room, masks-room, masks-front, ranks-count, most-stop, masks-length, fills)
+    (needs, room-stop, after-length, sized-stop, ranks-room, masks-room, masks-front, ranks-count, most-stop, masks-ready, masks-length, fills)
+
+-- the arrays of a sheet's bodies
+module _ (p c u : List ℕ) (start actions delay : ℕ) (before-masks before : List ℕ)
+    (fillable : Fillable p c u start actions delay before-masks before)
+    (g : List (List ℕ)) (f : List ℕ) (eg : g ≡ gridOf c) (ef : f ≡ firstsOf u) where
+  game-here : bodiesGame p c u start actions ≡ viewOf p g u f start actions
+  unfolding bodiesGame
+  game-here = rw (eg, ef)
+
+  pub bodies-can : (reaching lines leading cells : List ℕ) → Indexed u g delay reaching lines leading cells
+      → Searchable p g u f reaching lines leading cells start actions delay before-masks before
+  bodies-can reaching lines leading cells ix =
+      record {
+        room = fillable .room;
+        masks-room = fillable .masks-room;
+        ranks-room = fillable .ranks-room;
+        legal = rw game-here at (fillable .legal);
+        moves = rw game-here at (fillable .moves);
+        indexed = ix;
+      }
+
+  pub bodies-filled : {m k : List ℕ} {r : Stop} → Filled (viewOf p g u f start actions) delay before-masks before m k r
+      → Filled (bodiesGame p c u start actions) delay before-masks before m k r
+  bodies-filled filled = rw game-here filled
+
+-- arrays of zeros link nothing
+zeros : (n k : ℕ) → _≡_ {A = ℕ} (getD (replicate n 0) k 0) 0
+zeros zero k = refl
+zeros (suc n) zero = refl
+zeros (suc n) (suc k) = zeros n k
+
+pub long-enough : (l : List ℕ) (n : ℕ) → length l ≡ n → n ≤ length l
+long-enough l n e = rw e (le-refl n)
+
+pub none-linked : (key : ℕ → ℕ) (heads links : List ℕ) (n m : ℕ) → heads ≡ replicate n 0 → links ≡ replicate m 0 → n ≡ 257 → Linked key 0 heads links
+none-linked key heads links n m a b e =
+    linked-none key heads links (ap length a ∙ length-replicate {A = ℕ} n 0 ∙ e) (λ x. ap (λ (l : List ℕ). getD l x 0) a ∙ zeros n x)
+    (λ i. ap (λ (l : List ℕ). getD l i 0) b ∙ zeros m i)
 
 -- solving: a refused reading is handed on, and alters nothing
 
@@ -267,6 +316,7 @@ module _ (s : List ℕ) (rd : Reading) (e : reading.readingMeans rd ≡ readAnsw
             record {
               room = room-read;
               legal = rw (game-read c u ec eu) (legal-game s l answered);
+              moves = rw (game-read c u ec eu, eu ∙ carries s l answered .moves-part) (sheet-lines s (read-is s l answered .0));
               masks-room = omega arith;
               ranks-room = omega arith;
             }

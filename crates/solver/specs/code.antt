@@ -2,3 +2,10 @@
 pub mod Kept
 pub mod Search
 pub mod Flags
+pub mod Work
+pub mod Chains
+pub mod Spread
+pub mod Sweep
+pub mod First
+pub mod Block
+pub mod Working

@@ -1,9 +1,15 @@
 // Solving a game sheet: refusals 1 to 8, the answer, and the masks and ranks in the lent buffers.
 use crate::delays::Stop;
 use crate::delays::search;
-use crate::masks::fill_masks;
+use crate::index::index;
+use crate::levels::mask_level;
+use crate::spread::CELLS;
 use sheet::form::part;
 use sheet::grid::grid_of;
+use sheet::limits::INDEX;
+use sheet::limits::MOST_MOVES;
+use sheet::limits::ROW;
+use sheet::limits::ROWS;
 use sheet::moves::first_lines;
 use sheet::reading::Layout;
 use sheet::reading::Reading;
@@ -12,8 +18,8 @@ use sheet::refusal::Refusal;
 use walk::level::level_at;
 ghost use mathlib.Core.Path.{_≡_};
 ghost use Rattle.solver.specs.Solving.{solutionMeans, solving, masksSolved, ranksSolved};
-ghost use Rattle.solver.specs.code.Search.{Fillable, Filled};
-ghost use Rattle.sheet.specs.code.Arrays.{bodiesGame};
+ghost use Rattle.sheet.specs.code.Arrays.{viewOf, bodiesGame};
+ghost use Rattle.solver.specs.code.Search.{Searchable, Fillable, Filled};
 
 // Losing: the least delay at which no strategy wins.
 pub enum Solution {
@@ -22,7 +28,59 @@ pub enum Solution {
     Refused(u8),
 }
 
-// Both buffers filled, from the bodies of an accepted sheet. The grid and the index of moves are made once, for all delays.
+// Both buffers filled, from the arrays of an accepted sheet.
+fn fill_by(
+    p: &[u8],
+    grid: &[[u16; ROW]; ROWS],
+    u: &[u8],
+    firsts: &[u16; INDEX],
+    reaching: &[u16; INDEX],
+    lines: &[u16; MOST_MOVES],
+    leading: &[u16; INDEX],
+    cells: &[u16; CELLS],
+    start: u8,
+    actions: u8,
+    delay: u8,
+    masks: &mut [u8],
+    ranks: &mut [u16],
+) -> Stop
+    requires { ⌜ Searchable (now p) (now grid) (now u) (now firsts) (now reaching) (now lines) (now leading) (now cells) start actions delay
+        (now masks) (now ranks) ⌝ }
+    ensures { λ r.
+        ⌜ Filled (viewOf (now (p .entry)) (now (grid .entry)) (now (u .entry)) (now (firsts .entry)) start actions) delay
+        (now (masks .entry)) (now (ranks .entry)) (now (masks .exit)) (now (ranks .exit)) r ⌝ }
+{
+    let stop = search(
+        p,
+        grid,
+        u,
+        firsts,
+        reaching,
+        lines,
+        leading,
+        cells,
+        start,
+        actions,
+        delay,
+        ranks,
+        masks,
+    );
+    let level = level_at(p.len(), start, actions, stop.delay);
+    let nodes = level.nodes;
+    mask_level(
+        p,
+        grid,
+        u,
+        firsts,
+        level,
+        &ranks[..nodes],
+        stop.rounds,
+        &mut masks[..nodes],
+    );
+    stop
+}
+
+// The same from the bodies. The grid, the index of moves and the chains are made once, for all delays.
 fn fill(
     p: &[u8],
     c: &[u8],
@@ -40,20 +98,34 @@ fn fill(
 {
     let grid = grid_of(c);
     let firsts = first_lines(u);
-    let stop = search(p, &grid, u, &firsts, start, actions, delay, ranks);
-    let level = level_at(p.len(), start, actions, stop.delay);
-    let nodes = level.nodes;
-    fill_masks(
+    let mut reaching = [0u16; INDEX];
+    let mut lines = [0u16; MOST_MOVES];
+    let mut leading = [0u16; INDEX];
+    let mut cells = [0u16; CELLS];
+    index(
+        u,
+        &grid,
+        delay,
+        &mut reaching,
+        &mut lines,
+        &mut leading,
+        &mut cells,
+    );
+    fill_by(
         p,
         &grid,
         u,
         &firsts,
-        level,
-        &ranks[..nodes],
-        stop.rounds,
-        &mut masks[..nodes],
-    );
-    stop
+        &reaching,
+        &lines,
+        &leading,
+        &cells,
+        start,
+        actions,
+        delay,
+        masks,
+        ranks,
+    )
 }
 
 pub fn solve(sheet: &[u8], masks: &mut [u8], ranks: &mut [u16]) -> Solution

@@ -3,15 +3,18 @@ use Prim.Native.Nat.{ℕ, _≤_}
 use mathlib.Core.Path.{_≡_}
 use mathlib.Core.Bool.{Bool, true, false}
 use mathlib.Core.List.{List}
-use lib.ListN.{length}
+use lib.ListN.{length, take, drop}
 use Rattle.theory.specs.Buffer.{over}
 use Rattle.theory.specs.Game.{Game, Legal}
-use Rattle.theory.specs.Rounds.{masks, finalRanks}
-use Rattle.theory.specs.Delay.{Verdict, wins, losing, arena, answer}
+use Rattle.theory.specs.Rounds.{Arena, masks, finalRanks}
+use Rattle.theory.specs.Delay.{Verdict, wins, losing, words, arena, answer}
 use Rattle.sheet.specs.Checks.{nodesOf}
 use Rattle.sheet.specs.code.Arrays.{viewOf, bodiesGame}
+use Rattle.walk.specs.declared.level.Level.{Level}
 use Rattle.walk.specs.code.Levels.{Room}
 use Rattle.rounds.specs.code.Falling.{AtMost}
+use Rattle.solver.specs.code.Chains.{Indexed}
+use Rattle.solver.specs.code.Working.{Lines}
 use Rattle.solver.specs.Solving.{solvedDelay}
 use Rattle.solver.specs.declared.delays.Stop.{Stop}
 
@@ -27,16 +30,34 @@ pub record Stopped (G : Game) (d : ℕ) (before after : List ℕ) (r : Stop) : T
   pub ranks : after ≡ over (finalRanks (arena G (r .delay))) before
   pub rounds : AtMost (r .rounds) (finalRanks (arena G (r .delay)))
 
--- the arrays hold a legal game whose numbers have room, and so do the ranks
-pub record Searchable (p : List ℕ) (g : List (List ℕ)) (u f : List ℕ) (start actions delay : ℕ) (ranks : List ℕ) : Type 0 where
+-- what solving a level leaves: the masks too where words are pending
+pub record Leveled (E : Arena) (l : Level) (after left : List ℕ) (n : ℕ) : Type 0 where
+  pub final : after ≡ finalRanks E
+  pub most : AtMost n after
+  pub size : length left ≡ l .nodes
+  pub masks : (l .words ≡ 1 → ⊥) → left ≡ masks E
+
+-- the masks where the search stopped: in place where words are pending, and nothing beyond them is touched
+pub record MasksStopped (G : Game) (d : ℕ) (before after : List ℕ) : Type 0 where
+  pub size : length after ≡ length before
+  pub beyond : drop (arena G d .nodes) after ≡ drop (arena G d .nodes) before
+  pub made : (words G d ≡ 1 → ⊥) → take (arena G d .nodes) after ≡ masks (arena G d)
+
+-- the arrays hold a legal game whose numbers have room, and so do the buffers; the chains are those of its lines and cells
+pub record Searchable (p : List ℕ) (g : List (List ℕ)) (u f reaching lines leading cells : List ℕ) (start actions delay : ℕ)
+    (masks ranks : List ℕ) : Type 0 where
   pub room : Room (length p) actions delay
+  pub masks-room : nodesOf (length p) actions delay ≤ length masks
   pub ranks-room : nodesOf (length p) actions delay ≤ length ranks
   pub legal : Legal (viewOf p g u f start actions)
+  pub moves : Lines (viewOf p g u f start actions) u
+  pub indexed : Indexed u g delay reaching lines leading cells
 
 -- bodies that the solver takes, and buffers with room for them
 pub record Fillable (p c u : List ℕ) (start actions delay : ℕ) (masks ranks : List ℕ) : Type 0 where
   pub room : Room (length p) actions delay
   pub legal : Legal (bodiesGame p c u start actions)
+  pub moves : Lines (bodiesGame p c u start actions) u
   pub masks-room : nodesOf (length p) actions delay ≤ length masks
   pub ranks-room : nodesOf (length p) actions delay ≤ length ranks
 

@@ -1,20 +1,41 @@
 -- `fill` meets its contract. Assumes nothing.
-use Rattle.solver.proofs.SolveLaws.{filling, fills}
+use Prim.Native.Nat.{ℕ}
+use mathlib.Core.Path.{refl}
+use native.Mathlib.Omega.{arith}
+use lib.ListN.{replicate, length-replicate}
+use borrow.Author.Needs.{needs}
+use Rattle.solver.proofs.SolveLaws.{bodies-can, bodies-filled, none-linked, long-enough}
 use Rattle.solver.proofs.solve.fill.Statement.{statement}
 use Rattle.solver.proofs.solve.fill.Tie as tie
 
+index-requires : tie.Need-index-requires
+index-requires c κs = (
+  none-linked _ _ _ 257 4096 refl refl refl,
+  long-enough (replicate 4096 0) 4096 (length-replicate {A = ℕ} 4096 0),
+  none-linked _ _ _ 257 2048 refl refl refl,
+  long-enough (replicate 2048 0) 2048 (length-replicate {A = ℕ} 2048 0),
+)
+
+fill-by-requires : tie.Need-fill-by-requires
+fill-by-requires c κs =
+    let b12 = c .before .before .before .before .before .before .before .before .before .before .before .before in
+    let b18 = b12 .before .before .before .before .before .before in
+    let b19 = b18 .before in
+    let b25 = b19 .before .before .before .before .before .before in
+    let p = b25 .pre in
+    bodies-can _ _ _ _ _ _ _ _ p _ _ (b19 .grid-of .ensures) (b18 .first-lines .ensures) _ _ _ _ (b12 .index .ensures)
+
 returns : tie.Need-returns
 returns c =
-    let v = c .before .before .before .before .before .before .before in
-    let s = v .before .before .before in
-    let f = s .before .before .before .before in
-    let e = f .before .before .before .before .before .before .before in
-    fills _ _ _ _ _ _ _ _ (e .pre) _ _ (f .before .grid-of .ensures) (f .first-lines .ensures) _ _ (s .search .ensures) _
-    (v .level-at .ensures) (c .before .before .fill-masks .ensures)
+    let b4 = c .before .before .before .before in
+    let b14 = b4 .before .before .before .before .before .before .before .before .before .before in
+    let b23 = b14 .before .before .before .before .before .before .before .before .before in
+    let b24 = b23 .before in
+    let b30 = b24 .before .before .before .before .before .before in
+    bodies-filled _ _ _ _ _ _ _ _ (b30 .pre) _ _ (b24 .grid-of .ensures) (b23 .first-lines .ensures) (b4 .fill-by .ensures)
 
 pub fill-spec : {M : Type 1} → statement M
 fill-spec =
     tie.close
-    (tie.spec (λ c κs. search filling) (λ c κs. search filling) (λ c κs. search filling) (λ c κs. search filling)
-    (λ c. search filling) (λ c. search filling) (λ c. search filling) (λ c. search filling) (λ c κs. search filling)
-    (λ c. search filling) (λ c. search filling) returns)
+    (tie.spec (λ c κs. search needs) (λ c κs. search needs) (λ c. search needs) (λ c. search needs) (λ c. search needs)
+    (λ c. search needs) index-requires fill-by-requires (λ c. search needs) (λ c. search needs) returns)
