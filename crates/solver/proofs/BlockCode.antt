@@ -26,7 +26,7 @@ use Rattle.walk.specs.code.Levels.{arenaOf}
 use Rattle.walk.specs.code.Nodes.{Sized}
 use Rattle.walk.specs.code.Walks.{fallenBy, spoiltAnswer}
 use Rattle.walk.proofs.NodeLaws.{at-action}
-use Rattle.solver.specs.code.Work.{Work, strikesTo}
+use Rattle.solver.specs.code.Work.{Work, spoilRowTo}
 use Rattle.solver.specs.code.Sweep.{Fitted}
 use Rattle.solver.specs.code.Block.{blockedAt, noWay, blockTo, blocksTo}
 use Rattle.solver.proofs.RoundLaws.{spoilt-more}
@@ -142,10 +142,10 @@ module _ (E : Arena) (younger : ℕ) where
   unfolding blockTo
   block-passed w b e n = rw (sym e ∙ not-true _ n)
 
-  pub block-struck : (w : Work) (b : ℕ) {v : Work} {t : Bool} → t ≡ blockedAt E (b * younger) → not t ≡ false → v ≡ strikesTo 1 w (b * younger) younger
+  pub block-fallen : (w : Work) (b : ℕ) {v : Work} {t : Bool} → t ≡ blockedAt E (b * younger) → not t ≡ false → v ≡ spoilRowTo 1 w (b * younger) younger
       → v ≡ blockTo E younger w b
   unfolding blockTo
-  block-struck w b e n r = r ∙ rw (sym e ∙ not-false _ n)
+  block-fallen w b e n r = r ∙ rw (sym e ∙ not-false _ n)
 
   pub blocks-again : (w : Work) (b rows : ℕ) {x v : Work} → x ≡ blocksTo E younger w b (rows - b) → b < rows → v ≡ blockTo E younger w b
       → x ≡ blocksTo E younger v (b + 1) (rows - (b + 1))
@@ -166,4 +166,4 @@ rows-fit positions l sized =
     let r : positions * l .actions ≤ 256 * 8 = mul-le-mul (sized .few-positions) (sized .few-actions) in
     record { fits = omega arith }
 
-pub ruleset one-block = (needs, row-fits, row-whole, block-passed, block-struck)
+pub ruleset one-block = (needs, row-fits, row-whole, block-passed, block-fallen)

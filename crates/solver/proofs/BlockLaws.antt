@@ -1,4 +1,4 @@
--- Blocked nodes (specs/Block.antt) come in rows with the same position and oldest action; striking them marks every absent outcome.
+-- Blocked nodes (specs/Block.antt) come in rows with the same position and oldest action; spoiling them marks every absent outcome.
 -- Assumes nothing.
 use Prim.Native.Nat.{ℕ, zero, suc, _+_, _-_, _*_, _/_, _%_, _≤_, _<_}
 use mathlib.Core.Path.{_≡_, refl, sym, _∙_, ap}
@@ -17,28 +17,28 @@ use Rattle.theory.specs.Table.{bit}
 use Rattle.theory.proofs.Fold.{bool, not-both, same?, below?, same-test, both-true, both-left, both-right, both-second, any-of-some, any-of-holds, any-of-fails}
 use Rattle.theory.proofs.Turns.{to-injective, absent-not-to, played-move, played-absent}
 use Rattle.theory.proofs.Masks.{zero-bit}
-use Rattle.solver.specs.code.Work.{Work, strikeTo, strikesTo}
+use Rattle.solver.specs.code.Work.{Work, spoilAllTo, spoilRowTo}
 use Rattle.solver.specs.code.Block.{blockedAt, noWay, blockTo, blocksTo}
-use Rattle.solver.proofs.StateLaws.{rankOf, maskOf, Fresh, Good, Went, Goes, goes-none, goes-on, strike-goes}
+use Rattle.solver.proofs.StateLaws.{rankOf, maskOf, Fresh, Good, Went, Goes, goes-none, goes-on, spoil-all-goes}
 use Rattle.solver.proofs.RoundLaws.{Marked}
 use Rattle.solver.proofs.BeforeLaws.{step-at, bad-absent, played-unsafe, rest-below}
 use Rattle.solver.proofs.StartLaws.{first-rank}
 
--- so many nodes struck, from k on
+-- every action spoilt at so many nodes, from k on
 module _ (E : Arena) (n lo hi : ℕ) where
-  strikes-goes : (count k : ℕ) (w : Work) → Good E n lo hi w
+  spoil-row-goes : (count k : ℕ) (w : Work) → Good E n lo hi w
       → ((j : ℕ) → k ≤ j → j < k + count → E .right j ≡ true → (c : ℕ) → c < E .actions → spoiltBy E (fell (ranksAfter E n)) j c ≡ true)
-      → Goes E n lo hi w (strikesTo n w k count) × ((j c : ℕ) → k ≤ j → j < k + count → bit (maskOf (strikesTo n w k count) j) c ≡ false)
-  unfolding strikesTo
-  strikes-goes zero k w g bad = (goes-none E n lo hi w g, λ j c a b. absurd (omega arith))
-  strikes-goes (suc count) k w g bad =
-      let one = strike-goes E n lo hi w g k (λ h r. bad k (omega arith) (omega arith) r) in
-      let more = strikes-goes count (k + 1) (strikeTo n w k) (one .0 .good) (λ j a b r. bad j (omega arith) (omega arith) r) in (
+      → Goes E n lo hi w (spoilRowTo n w k count) × ((j c : ℕ) → k ≤ j → j < k + count → bit (maskOf (spoilRowTo n w k count) j) c ≡ false)
+  unfolding spoilRowTo
+  spoil-row-goes zero k w g bad = (goes-none E n lo hi w g, λ j c a b. absurd (omega arith))
+  spoil-row-goes (suc count) k w g bad =
+      let one = spoil-all-goes E n lo hi w g k (λ h r. bad k (omega arith) (omega arith) r) in
+      let more = spoil-row-goes count (k + 1) (spoilAllTo n w k) (one .0 .good) (λ j a b r. bad j (omega arith) (omega arith) r) in (
         goes-on E n lo hi (one .0) (more .0),
         λ j c a b.
             ⊎-elim
             (λ (e : j ≡ k).
-            more .0 .went .out j c (ap (λ (x : ℕ). bit (maskOf (strikeTo n w k) x) c) e ∙ ap (λ (x : ℕ). bit x c) (one .1) ∙ zero-bit c))
+            more .0 .went .out j c (ap (λ (x : ℕ). bit (maskOf (spoilAllTo n w k) x) c) e ∙ ap (λ (x : ℕ). bit x c) (one .1) ∙ zero-bit c))
             (λ e.
             let u : k + 1 ≤ j = later j k a e in
             let v : j < k + 1 + count = omega arith in
@@ -226,20 +226,20 @@ module _ (G : Game) (odd : Bool) (m younger : ℕ) (some : 0 < G .actions) (some
         at-row k q = sym (div-add-mod' k younger) ∙ ap (λ (x : ℕ). x * younger + k % younger) q
 
     row-goes : blockedAt E (b * younger) ≡ true
-        → Goes E 1 0 hi w (strikesTo 1 w (b * younger) younger)
-        × ((j c : ℕ) → b * younger ≤ j → j < b * younger + younger → bit (maskOf (strikesTo 1 w (b * younger) younger) j) c ≡ false)
+        → Goes E 1 0 hi w (spoilRowTo 1 w (b * younger) younger)
+        × ((j c : ℕ) → b * younger ≤ j → j < b * younger + younger → bit (maskOf (spoilRowTo 1 w (b * younger) younger) j) c ≡ false)
     row-goes e =
-        strikes-goes E 1 0 hi younger (b * younger) w g
+        spoil-row-goes E 1 0 hi younger (b * younger) w g
         (λ j l h r c a.
         let y : b * younger + (j - b * younger) ≡ j = omega arith in
         rw y at (row-spoilt b e (j - b * younger) c (omega arith) a (fell (ranksAfter E 1))))
 
-    module _ {t : Bool} {v : Work} (is : t ≡ blockedAt E (b * younger)) (true-is : t ≡ true) (e : v ≡ strikesTo 1 w (b * younger) younger) where
+    module _ {t : Bool} {v : Work} (is : t ≡ blockedAt E (b * younger)) (true-is : t ≡ true) (e : v ≡ spoilRowTo 1 w (b * younger) younger) where
       pub rows-good : Good E 1 0 hi v
       rows-good = rw e (row-goes (sym is ∙ true-is) .0 .good)
 
-      pub rows-strike : RowsMarked (b + 1) v
-      rows-strike =
+      pub rows-spoil : RowsMarked (b + 1) v
+      rows-spoil =
           rw e
           (record {
             out = λ k c h l a r i.
@@ -276,7 +276,7 @@ module _ (G : Game) (odd : Bool) (m younger : ℕ) (some : 0 < G .actions) (some
       ⊎-elim
       (λ (t : blockedAt E (b * younger) ≡ true).
       rw (t, ← e)
-      (blocks-goes hi count (b + 1) (strikesTo 1 w (b * younger) younger) (rows-good hi b w g r refl t refl) (rows-strike hi b w g r refl t refl)))
+      (blocks-goes hi count (b + 1) (spoilRowTo 1 w (b * younger) younger) (rows-good hi b w g r refl t refl) (rows-spoil hi b w g r refl t refl)))
       (λ (t : blockedAt E (b * younger) ≡ false).
       rw (t, ← e) (blocks-goes hi count (b + 1) w g (rows-pass hi b w g r refl t)))
       (bool (blockedAt E (b * younger)))

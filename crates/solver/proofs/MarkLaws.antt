@@ -13,7 +13,7 @@ use borrow.Author.Needs.{needs}
 use borrow.Author.Tests.{eq-eqb, ne-eqb, lt-ltb, le-ltb}
 use Rattle.theory.specs.Table.{bit}
 use Rattle.theory.proofs.Fold.{below?}
-use Rattle.solver.specs.code.Work.{Work, work, fallTo, leaveTo, markTo, strikeTo, strikesTo}
+use Rattle.solver.specs.code.Work.{Work, work, fallTo, leaveTo, markTo, spoilAllTo, spoilRowTo}
 use Rattle.solver.proofs.BitLaws.{bit-le, some-mask}
 
 module _ (ranks masks queue : List ℕ) (n k tail : ℕ) where
@@ -77,41 +77,41 @@ module _ (ranks masks queue : List ℕ) (n c k tail : ℕ) {m : ℕ} (is : m ≡
 
 pub ruleset marking = (needs, mark-out, mark-less, mark-node, mark-falls, mark-left)
 
--- striking
+-- spoiling
 
 module _ (ranks masks queue : List ℕ) (n k tail : ℕ) {m : ℕ} (is : m ≡ getD masks k 0) where
-  pub strike-none : m ≡ 0 → work ranks masks queue tail ≡ strikeTo n (work ranks masks queue tail) k
-  unfolding strikeTo
-  strike-none z = rw (eq-eqb (getD masks k 0) 0 (sym is ∙ z))
+  pub spoil-all-none : m ≡ 0 → work ranks masks queue tail ≡ spoilAllTo n (work ranks masks queue tail) k
+  unfolding spoilAllTo
+  spoil-all-none z = rw (eq-eqb (getD masks k 0) 0 (sym is ∙ z))
 
-  pub strike-falls : {w : Work} → w ≡ fallTo n (work ranks masks queue tail) k → (m ≡ 0 → ⊥) → w ≡ strikeTo n (work ranks masks queue tail) k
-  unfolding strikeTo
-  strike-falls e z = e ∙ rw (ne-eqb (getD masks k 0) 0 (λ q. z (is ∙ q)))
+  pub spoil-all-falls : {w : Work} → w ≡ fallTo n (work ranks masks queue tail) k → (m ≡ 0 → ⊥) → w ≡ spoilAllTo n (work ranks masks queue tail) k
+  unfolding spoilAllTo
+  spoil-all-falls e z = e ∙ rw (ne-eqb (getD masks k 0) 0 (λ q. z (is ∙ q)))
 
-  pub strike-node : (m ≡ 0 → ⊥) → k < length masks
-  strike-node z =
+  pub spoil-all-node : (m ≡ 0 → ⊥) → k < length masks
+  spoil-all-node z =
       ⊎-elim
       (λ (h : k < length masks). h)
       (λ (h : length masks ≤ k). let d : getD masks k 0 ≡ 0 = List·getD-eq-default masks 0 h in absurd (z (is ∙ d)))
       (below? k (length masks))
 
-pub ruleset striking = (needs, strike-none, strike-falls, strike-node)
+pub ruleset spoiling = (needs, spoil-all-none, spoil-all-falls, spoil-all-node)
 
 module _ (n : ℕ) where
-  pub strikes-again : (w : Work) (k i count : ℕ) {b v : Work} → b ≡ strikesTo n w (k + i) (count - i) → i < count → v ≡ strikeTo n w (k + i)
-      → b ≡ strikesTo n v (k + (i + 1)) (count - (i + 1))
-  unfolding strikesTo
-  strikes-again w k i count {b} {v} q h e =
+  pub spoil-row-again : (w : Work) (k i count : ℕ) {b v : Work} → b ≡ spoilRowTo n w (k + i) (count - i) → i < count → v ≡ spoilAllTo n w (k + i)
+      → b ≡ spoilRowTo n v (k + (i + 1)) (count - (i + 1))
+  unfolding spoilRowTo
+  spoil-row-again w k i count {b} {v} q h e =
       let c : count - i ≡ suc (count - (i + 1)) = omega arith in
       let d : k + i + 1 ≡ k + (i + 1) = omega arith in
-      q ∙ ap (λ x. strikesTo n w (k + i) x) c ∙ ap (λ x. strikesTo n x (k + i + 1) (count - (i + 1))) (sym e)
-      ∙ ap (λ x. strikesTo n v x (count - (i + 1))) d
+      q ∙ ap (λ x. spoilRowTo n w (k + i) x) c ∙ ap (λ x. spoilRowTo n x (k + i + 1) (count - (i + 1))) (sym e)
+      ∙ ap (λ x. spoilRowTo n v x (count - (i + 1))) d
 
-  pub strikes-end : (w : Work) (k i count : ℕ) {b : Work} → b ≡ strikesTo n w (k + i) (count - i) → count ≤ i → w ≡ b
-  unfolding strikesTo
-  strikes-end w k i count q h = let c : count - i ≡ 0 = omega arith in sym (q ∙ ap (λ x. strikesTo n w (k + i) x) c)
+  pub spoil-row-end : (w : Work) (k i count : ℕ) {b : Work} → b ≡ spoilRowTo n w (k + i) (count - i) → count ≤ i → w ≡ b
+  unfolding spoilRowTo
+  spoil-row-end w k i count q h = let c : count - i ≡ 0 = omega arith in sym (q ∙ ap (λ x. spoilRowTo n w (k + i) x) c)
 
-  pub strikes-start : (w : Work) (k count : ℕ) → strikesTo n w k count ≡ strikesTo n w (k + 0) (count - 0)
-  strikes-start w k count = let c : k + 0 ≡ k = omega arith in let d : count - 0 ≡ count = omega arith in rw (c, d)
+  pub spoil-row-start : (w : Work) (k count : ℕ) → spoilRowTo n w k count ≡ spoilRowTo n w (k + 0) (count - 0)
+  spoil-row-start w k count = let c : k + 0 ≡ k = omega arith in let d : count - 0 ≡ count = omega arith in rw (c, d)
 
-pub ruleset strikings = (needs, strikes-again, strikes-end, strikes-start)
+pub ruleset spoiling-rows = (needs, spoil-row-again, spoil-row-end, spoil-row-start)

@@ -16,7 +16,7 @@ use Rattle.theory.specs.Table.{bit}
 use Rattle.theory.proofs.Fold.{bool, not-both, below?, same?, count, count-less}
 use Rattle.theory.proofs.Rounds.{fell-true, fell-false, stood-rank}
 use Rattle.theory.proofs.Masks.{zero-bit}
-use Rattle.solver.specs.code.Work.{Work, work, fallTo, leaveTo, markTo, marksTo, strikeTo}
+use Rattle.solver.specs.code.Work.{Work, work, fallTo, leaveTo, markTo, marksTo, spoilAllTo}
 use Rattle.solver.proofs.BitLaws.{bit-le, bit-out, bit-other, some-mask}
 
 abbrev pub rankOf : Work → ℕ → ℕ
@@ -450,10 +450,10 @@ module _ (E : Arena) (n lo hi : ℕ) where
           (bool (bit (maskOf w k) c))
 
     -- every action is spoilt at node k
-    pub strike-goes : (k : ℕ) → (k < E .nodes → E .right k ≡ true → (c : ℕ) → c < E .actions → Spoilt k c)
-        → Goes w (strikeTo n w k) × (maskOf (strikeTo n w k) k ≡ 0)
-    unfolding strikeTo
-    strike-goes k bad =
+    pub spoil-all-goes : (k : ℕ) → (k < E .nodes → E .right k ≡ true → (c : ℕ) → c < E .actions → Spoilt k c)
+        → Goes w (spoilAllTo n w k) × (maskOf (spoilAllTo n w k) k ≡ 0)
+    unfolding spoilAllTo
+    spoil-all-goes k bad =
         ⊎-elim
         (λ (z : maskOf w k < 1). let q : maskOf w k ≡ 0 = omega arith in rw (eq-eqb (maskOf w k) 0 q) (goes-none, q))
         (λ (z : 1 ≤ maskOf w k).

@@ -1,6 +1,6 @@
 // Nodes at which every action is spoilt whatever falls: the oldest action is absent or an unsafe position is passed. They fall in
 // round 2.
-use crate::mark::strike;
+use crate::mark::spoil_all;
 use sheet::form::wide16;
 use sheet::grid::target;
 use sheet::kinds::on_right;
@@ -16,12 +16,12 @@ ghost use Prim.Native.Nat.{_+_, _*_, _/_, _≤_, _<_};
 ghost use lib.ListN.{length};
 ghost use Rattle.walk.specs.code.Levels.{arenaOf};
 ghost use Rattle.walk.specs.code.Nodes.{Sized};
-ghost use Rattle.solver.specs.code.Work.{work, Lent, strikesTo};
+ghost use Rattle.solver.specs.code.Work.{work, Lent, spoilRowTo};
 ghost use Rattle.solver.specs.code.Sweep.{Fitted};
 ghost use Rattle.solver.specs.code.Block.{blockedAt, blockTo, blocksTo};
 
 // Every action is spoilt at so many nodes, from k on.
-fn strike_all(
+fn spoil_row(
     ranks: &mut [u16],
     masks: &mut [u8],
     queue: &mut [u16],
@@ -33,12 +33,12 @@ fn strike_all(
     requires { ⌜ (Lent (now ranks) (now masks) (now queue)) × (n < 65535) × (k + count ≤ 16384) ⌝ }
     ensures { λ r.
         ⌜ work (now (ranks .exit)) (now (masks .exit)) (now (queue .exit)) r
-        ≡ strikesTo n (work (now (ranks .entry)) (now (masks .entry)) (now (queue .entry)) tail) k count ⌝ }
+        ≡ spoilRowTo n (work (now (ranks .entry)) (now (masks .entry)) (now (queue .entry)) tail) k count ⌝ }
 {
     let mut end = tail;
     let mut i: usize = 0;
     while i < count {
-        end = strike(ranks, masks, queue, n, k + i, end);
+        end = spoil_all(ranks, masks, queue, n, k + i, end);
         i += 1;
     }
     end
@@ -101,7 +101,7 @@ fn block_row(
     if !blocked(p, grid, u, firsts, level, ranks, younger, b) {
         return tail;
     }
-    strike_all(ranks, masks, queue, 1, b * younger, younger, tail)
+    spoil_row(ranks, masks, queue, 1, b * younger, younger, tail)
 }
 
 // All blocked rows fall in round 2.

@@ -3,7 +3,7 @@ use sheet::form::byte;
 ghost use mathlib.Core.Path.{_≡_};
 ghost use Prim.Native.Nat.{_≤_, _<_};
 ghost use lib.ListN.{length};
-ghost use Rattle.solver.specs.code.Work.{work, Lent, fallTo, markTo, strikeTo};
+ghost use Rattle.solver.specs.code.Work.{work, Lent, fallTo, markTo, spoilAllTo};
 
 // Node k falls in round n + 1. As many nodes as the queue has entries have fallen where it is full: then none is left.
 fn fall(
@@ -56,7 +56,7 @@ pub(crate) fn mark(
 }
 
 // Every action is spoilt at node k.
-pub(crate) fn strike(
+pub(crate) fn spoil_all(
     ranks: &mut [u16],
     masks: &mut [u8],
     queue: &mut [u16],
@@ -67,7 +67,7 @@ pub(crate) fn strike(
     requires { ⌜ (Lent (now ranks) (now masks) (now queue)) × (n < 65535) ⌝ }
     ensures { λ r.
         ⌜ work (now (ranks .exit)) (now (masks .exit)) (now (queue .exit)) r
-        ≡ strikeTo n (work (now (ranks .entry)) (now (masks .entry)) (now (queue .entry)) tail) k ⌝ }
+        ≡ spoilAllTo n (work (now (ranks .entry)) (now (masks .entry)) (now (queue .entry)) tail) k ⌝ }
 {
     if byte(masks, k) == 0 {
         return tail;

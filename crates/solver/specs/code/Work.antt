@@ -46,10 +46,10 @@ unfoldable pub marksTo : ℕ → ℕ → Work → List ℕ → Work
 marksTo n c w ks = foldl (markTo n c) w ks
 
 -- every action is spoilt at node k
-unfoldable pub strikeTo : ℕ → Work → ℕ → Work
-strikeTo n w k = cond (eqb (getD (w .masks) k 0) 0) w (fallTo n w k)
+unfoldable pub spoilAllTo : ℕ → Work → ℕ → Work
+spoilAllTo n w k = cond (eqb (getD (w .masks) k 0) 0) w (fallTo n w k)
 
 -- at so many nodes, from k on
-unfoldable pub strikesTo : ℕ → Work → ℕ → ℕ → Work
-strikesTo n w k zero = w
-strikesTo n w k (suc count) = strikesTo n (strikeTo n w k) (k + 1) count
+unfoldable pub spoilRowTo : ℕ → Work → ℕ → ℕ → Work
+spoilRowTo n w k zero = w
+spoilRowTo n w k (suc count) = spoilRowTo n (spoilAllTo n w k) (k + 1) count
