@@ -1,5 +1,5 @@
-//! Yards on which few pairs fall in each round while many stand: chains that lose one pair a round, beside ballast that never falls and
-//! whose moves are long to look through.
+//! Yards that are dear to solve: chains that lose one pair a round, beside ballast that never falls and whose moves are long to look
+//! through; and fans, in which all pairs fall at once and each is an outcome of many.
 use crate::random::Random;
 use crate::sheets::Yard;
 
@@ -271,4 +271,24 @@ fn ballast(plan: &mut Plan, shape: &Worst, ends: &[u8], touching: &[u8], safe: u
             plan.moves(hub, q);
         }
     }
+}
+
+/// Every own position leads to each of some yard positions, which move to every own position; one is unsafe, so that all others fall in
+/// round 2. The start is in a safe loop beside it, so that every lag is won and solved.
+pub fn fan(own: usize, hubs: usize, actions: u8, delay: u8) -> Yard {
+    let mut plan = Plan::new(actions);
+    let (safe, haven) = (plan.own(), plan.other());
+    plan.any(safe, haven);
+    plan.moves(haven, safe);
+    let hubs: Vec<u8> = (0..hubs).map(|_| plan.other()).collect();
+    for k in 0..own {
+        let q = plan.add(u8::from(k + 1 == own));
+        for command in 0..actions as usize {
+            plan.target(q, command, hubs[(k + command) % hubs.len()]);
+        }
+        for &hub in &hubs {
+            plan.moves(hub, q);
+        }
+    }
+    plan.yard(safe, delay)
 }
