@@ -193,7 +193,7 @@ module _ (G : Game) (m younger : ℕ) (some : 0 < G .actions) (someY : 0 < young
     rest = (j % m) / A
 
     abbrev spot : Spot
-    spot = record { n = n; words = m; younger = younger; rest = rest; action = last }
+    spot = record { n = n; words = m; younger = younger; actions = A; word = j % m; rest = rest; action = last }
 
     pub last-below : last < A
     last-below = mod-lt (j % m) some

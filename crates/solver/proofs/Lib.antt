@@ -7,6 +7,7 @@ pub mod RoundLaws
 pub mod MarkLaws
 pub mod ChainLaws
 pub mod SpreadLaws
+pub mod SeenLaws
 pub mod SweepLaws
 pub mod BeforeLaws
 pub mod ReadyLaws

@@ -51,7 +51,7 @@ module _ (G : Game) (legal : Legal G) (l : Level) (younger : ℕ) (fits : Fitted
   whole = rw acts at (fits .whole)
 
   abbrev spot : ℕ → ℕ → Spot
-  spot n j = record { n = n; words = m; younger = younger; rest = (j % m) / A; action = (j % m) % A }
+  spot n j = record { n = n; words = m; younger = younger; actions = A; word = j % m; rest = (j % m) / A; action = (j % m) % A }
 
   sound : (odd : Bool) (n j : ℕ) (fallen : ℕ → Bool) → fallen j ≡ true → j / m < G .positions → (k : ℕ)
       → List·Memᴰ k (nodesBefore odd x (spot n j) (j / m)) → spoiltBy (arenaBy odd G m) fallen k ((j % m) % A) ≡ true

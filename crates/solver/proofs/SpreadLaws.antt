@@ -145,13 +145,13 @@ module _ (f : ℕ → List ℕ) (links : List ℕ) (down : Down links) (n c : �
   gather-end e w z = ap (λ x. marksTo n c w (gather f (chain links x))) z ∙ ap (λ x. marksTo n c w (gather f x)) (chain-end links) ∙ marks-end n c w
 
 module _ (u lines heads cells : List ℕ) (s : Spot) (n c : ℕ) where
-  pub even-again : Down lines → (e : ℕ) (w : Work) {b v : Work} {h t f l : ℕ} → b ≡ marksTo n c w (evenNodes u lines heads cells s e) → (e ≡ 0 → ⊥)
-      → f ≡ getD u (2 * (e - 1)) 0 → t ≡ f → h ≡ headOf heads t → v ≡ marksTo n c w (callers cells s h) → l ≡ getD lines (e - 1) 0
+  pub even-again : Down lines → (e : ℕ) (w : Work) {b v : Work} {t f l : ℕ} → b ≡ marksTo n c w (evenNodes u lines heads cells s e) → (e ≡ 0 → ⊥)
+      → f ≡ getD u (2 * (e - 1)) 0 → t ≡ f → v ≡ marksTo n c w (callers cells s (headOf heads t)) → l ≡ getD lines (e - 1) 0
       → b ≡ marksTo n c v (evenNodes u lines heads cells s l)
   unfolding evenNodes
-  even-again down e w q z i j k r t =
+  even-again down e w q z i j r t =
       q ∙ gather-next (λ i. callers cells s (headOf heads (getD u (2 * i) 0))) lines down n c e w z
-      (r ∙ ap (λ x. marksTo n c w (callers cells s x)) (k ∙ ap (headOf heads) (j ∙ i))) t
+      (r ∙ ap (λ x. marksTo n c w (callers cells s (headOf heads x))) (j ∙ i)) t
 
   pub even-end : Down lines → (e : ℕ) (w : Work) → e ≡ 0 → marksTo n c w (evenNodes u lines heads cells s e) ≡ w
   unfolding evenNodes

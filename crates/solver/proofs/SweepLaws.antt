@@ -52,6 +52,9 @@ module _ (l : Level) (younger : ℕ) (fits : Fitted l younger) where
         few-younger = omega arith;
         few-rest = omega arith;
         few-actions = omega arith;
+        word-inside = m;
+        rest-is = refl;
+        action-is = refl;
       }
 
 pub ruleset spotting = (needs, some-word, action-fits, spot-spotted)
@@ -72,8 +75,6 @@ module _ (x : Index) (l : Level) (younger n : ℕ) (w : Work) (j : ℕ) where
       r ∙ ap (λ (y : ℕ). marksTo (s .n) (s .action) w (evenNodes (x .moves) (x .lines) (x .leading) (x .cells) s y)) q
       ∙ ap (λ (s : Spot). marksTo (s .n) (s .action) w (evenNodes (x .moves) (x .lines) (x .leading) (x .cells) s (headOf (x .reaching) (j / l .words)))) e
       ∙ rw o
-
-pub ruleset spreading = (needs, spread-odd-is, spread-even-is)
 
 -- the loop over the queue
 module _ (x : Index) (l : Level) (younger n : ℕ) where

@@ -149,6 +149,15 @@ module _ (p : List ℕ) (g : List (List ℕ)) (u f reaching lines leading cells 
       pub round-next : (v .tail ≡ hi → ⊥) → Rounding E (n + 1) hi (v .tail) v
       round-next z = let m = round-more z in let b = r .few in record { ready = next-ready; few = omega arith }
 
+      pub next-ranks : length (v .ranks) ≡ l .nodes
+      next-ranks = next-ready .good .ranks-size ∙ sym nodes-is
+
+      pub next-masks : length (v .masks) ≡ l .nodes
+      next-masks = next-ready .good .masks-size ∙ sym nodes-is
+
+      pub next-queue : length (v .queue) ≡ l .nodes
+      next-queue = next-ready .good .queue-size ∙ sym nodes-is
+
       pub next-inside : v .tail ≤ l .nodes
       next-inside =
           let a = next-ready .good .order in

@@ -5,6 +5,7 @@ pub mod Flags
 pub mod Work
 pub mod Chains
 pub mod Spread
+pub mod Seen
 pub mod Sweep
 pub mod First
 pub mod Block

@@ -12,16 +12,19 @@ ghost use Prim.Native.Nat.{_≤_, _<_};
 ghost use Rattle.solver.specs.code.Work.{work, Lent, marksTo};
 ghost use Rattle.solver.specs.code.Chains.{headOf, Chains, Down};
 ghost use Rattle.solver.specs.code.Spread.{Spotted, callerAt, wordAt, callers, sourceAt, sources, evenNodes, oddNodes};
+ghost use Rattle.solver.specs.code.Seen.{Seen};
 
 // The cells of the grid.
 pub const CELLS: usize = 2048;
 
-// What falls with a node in round n: an action, chosen where a word's younger actions are rest. A word is its oldest action times
-// younger, plus rest.
+// What falls with a node in round n: an action, chosen where a word's younger actions are rest; the node's word is both. The word
+// of a node before is its oldest action times younger, plus rest.
 pub struct Spot {
     pub n: u16,
     pub words: usize,
     pub younger: usize,
+    pub actions: usize,
+    pub word: usize,
     pub rest: usize,
     pub action: u8,
 }
@@ -117,12 +120,50 @@ fn mark_sources(
     end
 }
 
+// The same for target t, once for each word: nothing is left to do where it was done before. It is noted as done only where the
+// queue has room: every bit is out then.
+fn mark_target(
+    heads: &[u16; INDEX],
+    cells: &[u16; CELLS],
+    seen: &mut [u8],
+    ranks: &mut [u16],
+    masks: &mut [u8],
+    queue: &mut [u16],
+    spot: Spot,
+    t: usize,
+    tail: usize,
+) -> usize
+    requires { ⌜ (Lent (now ranks) (now masks) (now queue)) × (Spotted spot) × (Chains 2048 (now heads) (now cells)) × (t < 256)
+        × (Seen (now heads) (now cells) (spot .words) (spot .younger) (spot .actions) (now seen) (now masks)) ⌝ }
+    ensures { λ r.
+        ⌜ (work (now (ranks .exit)) (now (masks .exit)) (now (queue .exit)) r
+        ≡ marksTo (spot .n) (spot .action) (work (now (ranks .entry)) (now (masks .entry)) (now (queue .entry)) tail)
+        (callers (now (cells .entry)) spot (headOf (now (heads .entry)) t)))
+        × (Seen (now (heads .entry)) (now (cells .entry)) (spot .words) (spot .younger) (spot .actions) (now (seen .exit))
+        (now (masks .exit))) ⌝ }
+{
+    let s = t * spot.words + spot.word;
+    if byte(seen, s) != 0 {
+        return tail;
+    }
+    let end = mark_callers(cells, ranks, masks, queue, spot, head(heads, t), tail);
+    if queue.len() <= end {
+        return end;
+    }
+    if seen.len() <= s {
+        return end;
+    }
+    seen[s] = 1;
+    end
+}
+
 // Even delays: a caller's action leads to a position from where a move leads to the fallen node's.
 pub(crate) fn spread_even(
     u: &[u8],
     lines: &[u16; MOST_MOVES],
     heads: &[u16; INDEX],
     cells: &[u16; CELLS],
+    seen: &mut [u8],
     ranks: &mut [u16],
     masks: &mut [u8],
     queue: &mut [u16],
@@ -131,18 +172,21 @@ pub(crate) fn spread_even(
     tail: usize,
 ) -> usize
     requires { ⌜ (Lent (now ranks) (now masks) (now queue)) × (Spotted spot) × (Chains 2048 (now heads) (now cells))
-        × (Down (now lines)) × (first ≤ 4096) ⌝ }
+        × (Down (now lines)) × (first ≤ 4096)
+        × (Seen (now heads) (now cells) (spot .words) (spot .younger) (spot .actions) (now seen) (now masks)) ⌝ }
     ensures { λ r.
-        ⌜ work (now (ranks .exit)) (now (masks .exit)) (now (queue .exit)) r
+        ⌜ (work (now (ranks .exit)) (now (masks .exit)) (now (queue .exit)) r
         ≡ marksTo (spot .n) (spot .action) (work (now (ranks .entry)) (now (masks .entry)) (now (queue .entry)) tail)
-        (evenNodes (now (u .entry)) (now (lines .entry)) (now (heads .entry)) (now (cells .entry)) spot first) ⌝ }
+        (evenNodes (now (u .entry)) (now (lines .entry)) (now (heads .entry)) (now (cells .entry)) spot first))
+        × (Seen (now (heads .entry)) (now (cells .entry)) (spot .words) (spot .younger) (spot .actions) (now (seen .exit))
+        (now (masks .exit))) ⌝ }
 {
     let mut e = first;
     let mut end = tail;
     while e != 0 {
         let i = e - 1;
         let t = wide(byte(u, 2 * i));
-        end = mark_callers(cells, ranks, masks, queue, spot, head(heads, t), end);
+        end = mark_target(heads, cells, seen, ranks, masks, queue, spot, t, end);
         e = wide16(lines[i]);
     }
     end

@@ -14,6 +14,7 @@ ghost use lib.ListN.{length};
 ghost use Rattle.solver.specs.code.Work.{work, Lent};
 ghost use Rattle.solver.specs.code.Chains.{Chains};
 ghost use Rattle.solver.specs.code.Spread.{Spotted};
+ghost use Rattle.solver.specs.code.Seen.{Seen};
 ghost use Rattle.solver.specs.code.Sweep.{index, Fitted, spotAt, spreadTo, sweepTo};
 
 // The action and the younger actions of node j's word.
@@ -26,6 +27,8 @@ fn spot_at(level: Level, younger: usize, n: u16, j: usize) -> Spot
         n,
         words: level.words,
         younger,
+        actions: level.actions,
+        word: v,
         rest: v / level.actions,
         action: (v % level.actions) as u8,
     }
@@ -40,6 +43,7 @@ fn spread(
     cells: &[u16; CELLS],
     level: Level,
     younger: usize,
+    seen: &mut [u8],
     ranks: &mut [u16],
     masks: &mut [u8],
     queue: &mut [u16],
@@ -48,12 +52,15 @@ fn spread(
     tail: usize,
 ) -> usize
     requires { ⌜ (Lent (now ranks) (now masks) (now queue)) × (Fitted level younger) × (n < 65535)
-        × (Chains 4096 (now reaching) (now lines)) × (Chains 2048 (now leading) (now cells)) ⌝ }
+        × (Chains 4096 (now reaching) (now lines)) × (Chains 2048 (now leading) (now cells))
+        × (Seen (now leading) (now cells) (level .words) younger (level .actions) (now seen) (now masks)) ⌝ }
     ensures { λ r.
-        ⌜ work (now (ranks .exit)) (now (masks .exit)) (now (queue .exit)) r
+        ⌜ (work (now (ranks .exit)) (now (masks .exit)) (now (queue .exit)) r
         ≡ spreadTo
         (index (now (u .entry)) (now (reaching .entry)) (now (lines .entry)) (now (leading .entry)) (now (cells .entry)))
-        level younger n (work (now (ranks .entry)) (now (masks .entry)) (now (queue .entry)) tail) j ⌝ }
+        level younger n (work (now (ranks .entry)) (now (masks .entry)) (now (queue .entry)) tail) j)
+        × (Seen (now (leading .entry)) (now (cells .entry)) (level .words) younger (level .actions) (now (seen .exit))
+        (now (masks .exit))) ⌝ }
 {
     let spot = spot_at(level, younger, n, j);
     let q = j / level.words;
@@ -76,6 +83,7 @@ fn spread(
         lines,
         leading,
         cells,
+        seen,
         ranks,
         masks,
         queue,
@@ -94,6 +102,7 @@ pub(crate) fn sweep(
     cells: &[u16; CELLS],
     level: Level,
     younger: usize,
+    seen: &mut [u8],
     ranks: &mut [u16],
     masks: &mut [u8],
     queue: &mut [u16],
@@ -103,12 +112,15 @@ pub(crate) fn sweep(
     tail: usize,
 ) -> usize
     requires { ⌜ (Lent (now ranks) (now masks) (now queue)) × (Fitted level younger) × (n < 65535)
-        × (Chains 4096 (now reaching) (now lines)) × (Chains 2048 (now leading) (now cells)) × (hi ≤ length (now queue)) ⌝ }
+        × (Chains 4096 (now reaching) (now lines)) × (Chains 2048 (now leading) (now cells)) × (hi ≤ length (now queue))
+        × (Seen (now leading) (now cells) (level .words) younger (level .actions) (now seen) (now masks)) ⌝ }
     ensures { λ r.
-        ⌜ work (now (ranks .exit)) (now (masks .exit)) (now (queue .exit)) r
+        ⌜ (work (now (ranks .exit)) (now (masks .exit)) (now (queue .exit)) r
         ≡ sweepTo
         (index (now (u .entry)) (now (reaching .entry)) (now (lines .entry)) (now (leading .entry)) (now (cells .entry)))
-        level younger n (work (now (ranks .entry)) (now (masks .entry)) (now (queue .entry)) tail) lo (hi - lo) ⌝ }
+        level younger n (work (now (ranks .entry)) (now (masks .entry)) (now (queue .entry)) tail) lo (hi - lo))
+        × (Seen (now (leading .entry)) (now (cells .entry)) (level .words) younger (level .actions) (now (seen .exit))
+        (now (masks .exit))) ⌝ }
 {
     let mut at = lo;
     let mut end = tail;
@@ -122,6 +134,7 @@ pub(crate) fn sweep(
             cells,
             level,
             younger,
+            seen,
             ranks,
             masks,
             queue,

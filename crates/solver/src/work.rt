@@ -13,6 +13,7 @@ ghost use mathlib.Core.Path.{_≡_};
 ghost use Prim.Native.Nat.{_-_, _/_, _^_, _≤_, _<_};
 ghost use lib.ListN.{length};
 ghost use Rattle.walk.specs.code.Levels.{arenaOf};
+ghost use Rattle.solver.specs.code.Seen.{Clear};
 ghost use Rattle.solver.specs.code.Working.{Workable, Worked};
 
 // The mask of so many actions.
@@ -36,12 +37,14 @@ fn all_rounds(
     cells: &[u16; CELLS],
     level: Level,
     younger: usize,
+    seen: &mut [u8],
     ranks: &mut [u16],
     masks: &mut [u8],
     queue: &mut [u16],
 ) -> u16
     requires { ⌜ (Workable (now p) (now grid) (now u) (now firsts) (now reaching) (now lines) (now leading) (now cells) level younger)
-        × (length (now ranks) ≡ level .nodes) × (length (now masks) ≡ level .nodes) × (length (now queue) ≡ level .nodes) ⌝ }
+        × (length (now ranks) ≡ level .nodes) × (length (now masks) ≡ level .nodes) × (length (now queue) ≡ level .nodes)
+        × (Clear (now seen)) ⌝ }
     ensures { λ r.
         ⌜ Worked (arenaOf (now (p .entry)) (now (grid .entry)) (now (u .entry)) (now (firsts .entry)) level)
         (now (ranks .exit)) (now (masks .exit)) r ⌝ }
@@ -59,6 +62,7 @@ fn all_rounds(
             cells,
             level,
             younger,
+            seen,
             ranks,
             masks,
             queue,
@@ -78,7 +82,7 @@ fn all_rounds(
     last
 }
 
-// The same with a queue of its own.
+// The same with a queue of its own, and a note for each target and word.
 pub(crate) fn work(
     p: &[u8],
     grid: &[[u16; ROW]; ROWS],
@@ -99,6 +103,7 @@ pub(crate) fn work(
         (now (ranks .exit)) (now (masks .exit)) r ⌝ }
 {
     let mut queue = [0u16; MOST_NODES];
+    let mut seen = [0u8; MOST_NODES];
     let nodes = level.nodes;
     let younger = level.words / level.actions;
     all_rounds(
@@ -112,6 +117,7 @@ pub(crate) fn work(
         cells,
         level,
         younger,
+        &mut seen[..nodes],
         ranks,
         masks,
         &mut queue[..nodes],

@@ -1,18 +1,22 @@
 -- The nodes that a fallen node is an outcome of, as the chains give them. Assumes nothing.
 use Prim.Native.Nat.{ℕ, _+_, _*_, _/_, _%_, _≤_, _<_}
+use mathlib.Core.Path.{_≡_}
 use mathlib.Core.List.{List, [], _∷_, _++_, map}
 use lib.ListN.{getD}
 use Rattle.sheet.specs.Limits.{mostActions, mostNodes}
 use Rattle.solver.specs.declared.spread.Spot.{Spot}
 use Rattle.solver.specs.code.Chains.{chain, headOf}
 
--- the numbers of a spot are small
+-- the numbers of a spot are small, and its word is the rest and the action
 pub record Spotted (s : Spot) : Type 0 where
   pub round : s .n < 65535
   pub few-words : s .words ≤ mostNodes
   pub few-younger : s .younger ≤ mostNodes
   pub few-rest : s .rest ≤ mostNodes
   pub few-actions : s .action < mostActions
+  pub word-inside : s .word < s .words
+  pub rest-is : s .rest ≡ s .word / s .actions
+  pub action-is : s .action ≡ s .word % s .actions
 
 -- the node of a cell's position, whose oldest action is the cell's
 unfoldable pub callerAt : Spot → ℕ → ℕ

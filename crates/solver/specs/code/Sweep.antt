@@ -38,6 +38,8 @@ spotAt l younger n j =
       n = n;
       words = l .words;
       younger = younger;
+      actions = l .actions;
+      word = j % l .words;
       rest = (j % l .words) / l .actions;
       action = (j % l .words) % l .actions;
     }
