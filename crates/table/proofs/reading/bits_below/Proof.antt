@@ -21,4 +21,5 @@ pub bits-below-spec : {M : Type 1} → statement M
 bits-below-spec =
     tie.close
     (tie.spec Inv-loop μ-loop (λ c. search bits) (λ c. search bits)
-    (λ c. bits-all _ _ (λ k. omega (arith, c .before .shared-slice-known .given k)) (search bits)) (λ c. search bits) (λ c. search bits) (λ c. search bits) (λ c. search bits) (λ c. search bits) (λ c. search bits) (λ c. search bits))
+    (λ c. bits-all _ _ (λ k. omega (arith, c .before .shared-slice-known .given k)) (search bits))
+    (λ c. search bits) (λ c. search bits) (λ c. search bits) (λ c. search bits) (λ c. search bits) (λ c. search bits) (λ c. search bits))
