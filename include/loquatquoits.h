@@ -42,8 +42,9 @@
  * Memory. The library has no static data and needs no initialisation: a function reads and writes only what is lent to it and its stack.
  * So it is reentrant, and threads may call at the same time if none writes to what another was lent. (One sheet may be lent to all, a
  * cabin's state to one at a time.) A pointer is not null and valid for the length that goes with it, and what is lent for writing
- * overlaps nothing else that is lent. Measured on x86-64 over sheets with up to 16,384 pairs, lq_make goes 15,112 bytes deep into the
- * stack, lq_solve 10,216, lq_read 1,160 and each other function fewer than 600: a stack of 20 KiB is enough for any.
+ * overlaps nothing else that is lent. Measured on x86-64 over sheets with up to 16,384 pairs, lq_make goes 73,624 bytes deep into the
+ * stack, lq_solve 68,728, lq_read 1,160 and each other function fewer than 600: a stack of 80 KiB is enough for any, and one of 4 KiB for
+ * the cabin's functions.
  */
 #ifndef LOQUATQUOITS_H
 #define LOQUATQUOITS_H
