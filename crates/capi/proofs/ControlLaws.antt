@@ -42,7 +42,7 @@ acted-in : (s : State) (a : Answer TurnTaken) → actedIn (afterActing s a .resp
 acted-in s (refused n) = refl
 acted-in s (accepted x) = refl
 
--- from the case d of the decision to the answer a; the state s is what the bytes b mean
+-- from the case d of the decision to the answer a; b is the state's bytes
 
 module _ {B : Type 0} (v : B) (g : ℕ → B) (r : Step) (d : Decision) (e : r .decision ≡ d) where
   pub by-opening : (f : State → B) (s : State) (a : Answer State) → stepMeans r ≡ afterObserving s a
@@ -54,22 +54,21 @@ module _ {B : Type 0} (v : B) (g : ℕ → B) (r : Step) (d : Decision) (e : r .
       ∙ ap (λ (q : Reply). answerIn (q .response) (q .state)) told
       ∙ answer-in s a)
 
-  module _ (t b : List ℕ) (s : State) (decoded : s ≡ decodeState b) where
-    pub by-observing : (f : State → B) (k p : ℕ) → stepMeans r ≡ reply t s (observe k p)
+  module _ (t b : List ℕ) where
+    pub by-observing : (f : State → B) (k p : ℕ) → stepMeans r ≡ reply t (decodeState b) (observe k p)
         → v ≡ byAnswer g f (answerIn (responseOf d) (r .state)) → v ≡ byAnswer g f (observeAnswer t (decodeState b) k p)
-    by-observing f k p told =
-        by-opening f (decodeState b) (observeAnswer t (decodeState b) k p) (told ∙ ap (λ (s : State). reply t s (observe k p)) decoded)
+    by-observing f k p told = by-opening f (decodeState b) (observeAnswer t (decodeState b) k p) told
 
-    pub by-acting : (f : TurnTaken → B) → stepMeans r ≡ reply t s act → v ≡ byAnswer g f (actedIn (responseOf d) (r .state))
+    pub by-acting : (f : TurnTaken → B) → stepMeans r ≡ reply t (decodeState b) act → v ≡ byAnswer g f (actedIn (responseOf d) (r .state))
         → v ≡ byAnswer g f (actAnswer t (decodeState b))
     by-acting f told q =
         q
         ∙ ap (byAnswer g f)
         (ap (λ d. actedIn (responseOf d) (r .state)) (sym e)
-        ∙ ap (λ (q : Reply). actedIn (q .response) (q .state)) (told ∙ ap (λ (s : State). reply t s act) decoded)
+        ∙ ap (λ (q : Reply). actedIn (q .response) (q .state)) told
         ∙ acted-in (decodeState b) (actAnswer t (decodeState b)))
 
--- what an accepted observation says of its index: the slot is one of the window
+-- what an accepted observation says of its index: the slot is one of the window; the turn stays
 
 module _ (t : List ℕ) (s : State) (k p : ℕ) (r : Step) (told : stepMeans r ≡ reply t s (observe k p)) (e : r .decision ≡ Accepted) where
   is-accepted : observeAnswer t s k p ≡ accepted (r .state)
@@ -78,19 +77,21 @@ module _ (t : List ℕ) (s : State) (k p : ℕ) (r : Step) (told : stepMeans r �
       ∙ ap (λ (q : Reply). answerIn (q .response) (q .state)) (sym told)
       ∙ ap (λ d. answerIn (responseOf d) (r .state)) e
 
-  pub newest-fits : Fits w64 (2 * s .turn)
+  same-turn : r .state .turn ≡ s .turn
+  same-turn = ap (λ (s : State). s .turn) (sym (observe-accepted t s k p (r .state) is-accepted .3))
+
+  pub newest-fits : Fits w64 (2 * r .state .turn)
   unfolding stateOk
   newest-fits =
       let o = observe-accepted t s k p (r .state) is-accepted in
       let few = leb-true (s .turn) lastTurn (both-left _ _ (o .2 .good)) in
-      record { fits = omega (arith, few) }
+      record { fits = omega (arith, few, same-turn) }
 
-  pub index-within : k ≤ 2 * s .turn
-  index-within = observe-accepted t s k p (r .state) is-accepted .2 .not-new
+  pub index-within : k ≤ 2 * r .state .turn
+  index-within = omega (arith, same-turn, observe-accepted t s k p (r .state) is-accepted .2 .not-new)
 
-pub filled-is : (b u : List ℕ) (s : State) (k p : ℕ) → s ≡ decodeState b → u ≡ slotFilled b (2 * s .turn - k) p
-    → u ≡ slotFilled b (2 * decodeState b .turn - k) p
-filled-is b u s k p decoded e = e ∙ ap (λ (s : State). slotFilled b (2 * s .turn - k) p) decoded
+  pub filled-is : (b u : List ℕ) → u ≡ slotFilled b (2 * r .state .turn - k) p → u ≡ slotFilled b (2 * s .turn - k) p
+  filled-is b u q = q ∙ ap (λ n. slotFilled b (2 * n - k) p) same-turn
 
 pub ruleset opens = (needs, by-refused, by-accepted, by-opening)
 

@@ -4,7 +4,6 @@ use controller::calls::act;
 use controller::calls::observe;
 use controller::calls::opening;
 use state::bytes::STATE_BYTES;
-use state::bytes::decode;
 use state::bytes::encode;
 use state::bytes::fill_slot;
 ghost use mathlib.Core.Path.{_≡_};
@@ -39,14 +38,13 @@ pub extern "C" fn lq_observe(
     ensures number { λ r. ⌜ r ≡ numberFor (observing (now (sheet .entry)) (now (state .entry)) index position) ⌝ }
     ensures state { λ r. ⌜ now (state .exit) ≡ bytesObserved (now (sheet .entry)) (now (state .entry)) index position ⌝ }
 {
-    let before = decode(state);
-    let turn = before.turn;
-    let step = observe(sheet, before, index, position);
+    let step = observe(sheet, state, index, position);
     let decision = step.decision;
+    let after = step.state;
     match decision {
         Decision::Refused(reason) => reason.number(),
         Decision::Accepted => {
-            fill_slot(state, 2 * turn - index, position);
+            fill_slot(state, 2 * after.turn - index, position);
             0
         }
         Decision::Acted(_) => 0, // observing takes no action
@@ -59,7 +57,7 @@ pub extern "C" fn lq_act(sheet: &[u8], state: &mut [u8; STATE_BYTES], action: &m
     ensures state { λ r. ⌜ now (state .exit) ≡ bytesActed (now (sheet .entry)) (now (state .entry)) ⌝ }
     ensures action { λ r. ⌜ now (action .exit) ≡ actionAfter (now (sheet .entry)) (now (state .entry)) (now (action .entry)) ⌝ }
 {
-    let step = act(sheet, decode(state));
+    let step = act(sheet, state);
     let decision = step.decision;
     match decision {
         Decision::Refused(reason) => reason.number(),

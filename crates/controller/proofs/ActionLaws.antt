@@ -5,7 +5,7 @@ use mathlib.Core.Path.{_≡_, refl, sym, _∙_, ap, ap₂}
 use mathlib.Core.Bool.{Bool, true, false, not}
 use mathlib.Core.List.{List}
 use native.Mathlib.Omega.{arith}
-use native.Mathlib.Nat.{lt-of-lt-of-le, mul-le-mul, mod-lt, pow-le-pow-right}
+use native.Mathlib.Nat.{le-of-lt, lt-of-lt-of-le, mul-le-mul, mod-lt, pow-zero, pow-suc, pow-le-pow-right, add-zero, mul-one, mul-assoc, add-assoc, add-mul}
 use native.Mathlib.Numerals.{add-one}
 use lib.Count.{trailingZeros, trailing-le}
 use lib.ListN.{length, getD, take, drop, length-take, drop-of-length-le}
@@ -20,9 +20,7 @@ use Rattle.theory.specs.Table.{flagged}
 use Rattle.theory.specs.Exact.{leastFlagged}
 use Rattle.theory.proofs.Fold.{first, first-suc, first-unique, all-none, all-again, all-at, all-fails}
 use Rattle.theory.proofs.Words.{digit-shorter}
-use Rattle.sheet.specs.Limits.{mostActions, mostDelay}
-use Rattle.sheet.specs.code.Steps.{powerTo, mostPower}
-use Rattle.sheet.proofs.SizeLaws.{power-bound, small-power}
+use Rattle.sheet.specs.Limits.{mostDelay}
 use Rattle.table.proofs.TableLaws.{wordsOf, flag-none, flag-set}
 use Rattle.state.specs.State.{mostHeld}
 use Rattle.controller.specs.Controller.{wordOf}
@@ -98,77 +96,83 @@ digit-small left b A h e l = let q : left % b < b = mod-lt left (omega arith) in
 
 pub ruleset digit-laws = (needs, digit-none, digit-start, digit-again, digit-end, digit-small)
 
--- the pending word
+-- the node of position p and the pending word; u is what the loop has before action k - 1, b and x are bytes as numbers
 
 length-small : (n : ℕ) (l : List ℕ) → length (take n l) ≤ n
 length-small n l = rw (length-take n l) (omega arith)
 
-module _ (A n : ℕ) (last : List ℕ) where
-  pub word-start : 0 ≡ wordOf A (drop n (take n last))
-  unfolding wordOf
-  word-start = ap (wordOf A) (sym (drop-of-length-le (take n last) {i = n} (length-small n last)))
+module _ (A p n : ℕ) (last : List ℕ) where
+  -- the node of the actions from k on
+  unfoldable pub nodeFrom : ℕ → ℕ
+  nodeFrom k = p * A ^ (n - k) + wordOf A (drop k (take n last))
 
-  pub word-again : (k w b x : ℕ) → length last ≡ mostHeld → n ≤ mostHeld → 0 < k → k ≤ n → w ≡ wordOf A (drop k (take n last)) → b ≡ A
-      → x ≡ getD last (k - 1) 0 → w * b + x ≡ wordOf A (drop (k - 1) (take n last))
-  unfolding wordOf
-  word-again k w b x l h g j e q p =
+  pub node-start : (u : ℕ) → u ≡ p → u ≡ nodeFrom n
+  unfolding nodeFrom wordOf
+  node-start u e =
+      let z : n - n ≡ 0 = omega arith in
+      e
+      ∙ sym
+      (ap₂ (λ m l. p * A ^ m + wordOf A l) z (drop-of-length-le (take n last) {i = n} (length-small n last))
+      ∙ rw (pow-zero A) (add-zero (p * 1) ∙ mul-one p))
+
+  pub node-again : (k u b x : ℕ) → length last ≡ mostHeld → n ≤ mostHeld → 0 < k → k ≤ n → u ≡ nodeFrom k → b ≡ A → x ≡ getD last (k - 1) 0
+      → u * b + x ≡ nodeFrom (k - 1)
+  unfolding nodeFrom wordOf
+  node-again k u b x l h g j e q i =
       let z : suc (k - 1) ≡ k = omega arith in
+      let m : n - (k - 1) ≡ suc (n - k) = omega arith in
       let y = length-take-le n last (omega arith) in
       let d = drop-cons (take n last) (k - 1) 0 (omega arith) in
-      ap₂ (λ w b. w * b + x) e q
-      ∙ ap₂ (λ m x. wordOf A (drop m (take n last)) * A + x) (sym z) (p ∙ sym (getD-take n last (k - 1) 0 (omega arith)))
-      ∙ ap (wordOf A) (sym d)
+      let w = wordOf A (drop k (take n last)) in
+      let v : w * A + x ≡ wordOf A (drop (k - 1) (take n last)) =
+      ap₂ (λ m x. wordOf A (drop m (take n last)) * A + x) (sym z) (i ∙ sym (getD-take n last (k - 1) 0 (omega arith)))
+      ∙ ap (wordOf A) (sym d) in
+      ap₂ (λ u b. u * b + x) e q
+      ∙ ap (λ y. y + x) (add-mul (p * A ^ (n - k)) w A)
+      ∙ add-assoc (p * A ^ (n - k) * A) (w * A) x
+      ∙ ap₂ (λ y z. y + z) (mul-assoc p (A ^ (n - k)) A ∙ ap (λ y. p * y) (sym (pow-suc A (n - k))) ∙ ap (λ m. p * A ^ m) (sym m)) v
 
-  pub word-end : (k w : ℕ) → k ≤ 0 → w ≡ wordOf A (drop k (take n last)) → w ≡ wordOf A (take n last)
-  word-end k w h e = let z : k ≡ 0 = omega arith in e ∙ ap (λ m. wordOf A (drop m (take n last))) z
+  pub node-end : (k u : ℕ) → k ≤ 0 → u ≡ nodeFrom k → u ≡ p * A ^ n + wordOf A (take n last)
+  unfolding nodeFrom
+  node-end k u h e =
+      let z : k ≡ 0 = omega arith in
+      let y : n - k ≡ n = omega arith in
+      e ∙ ap₂ (λ m k. p * A ^ m + wordOf A (drop k (take n last))) y z
 
-pub bound-start : (n : ℕ) → 0 < 256 ^ (n - n)
-bound-start n = let z : n - n ≡ 0 = omega arith in rw z (omega arith)
+pub bound-start : (n u p : ℕ) → u ≡ p → p < 256 → u < 256 ^ (n - n + 1)
+bound-start n u p e h = let z : n - n ≡ 0 = omega arith in rw z (omega arith)
 
-pub bound-again : (n k w b x y A : ℕ) → 0 < k → k ≤ n → w < 256 ^ (n - k) → b ≡ A → A < 256 → x ≡ y → y < 256
-    → w * b + x < 256 ^ (n - (k - 1))
-bound-again n k w b x y A h g l e s i t =
-    let z : n - (k - 1) ≡ suc (n - k) = omega arith in
-    let m : w * b ≤ (256 ^ (n - k) - 1) * 255 = mul-le-mul (omega arith) (omega arith) in
+pub bound-again : (n k u b x y A : ℕ) → 0 < k → k ≤ n → u < 256 ^ (n - k + 1) → b ≡ A → A < 256 → x ≡ y → y < 256
+    → u * b + x < 256 ^ (n - (k - 1) + 1)
+bound-again n k u b x y A h g l e s i t =
+    let z : n - (k - 1) + 1 ≡ suc (n - k + 1) = omega arith in
+    let m : u * b ≤ (256 ^ (n - k + 1) - 1) * 255 = mul-le-mul (omega arith) (omega arith) in
     rw z (omega arith)
 
-pub bound-end : (n k w : ℕ) → n ≤ mostHeld → w < 256 ^ (n - k) → w < 256 ^ mostHeld
-bound-end n k w h l =
-    let z : n - k ≤ mostHeld = omega arith in
-    lt-of-lt-of-le l (pow-le-pow-right (omega arith) z)
+product-small : (n k u b A : ℕ) → n ≤ mostHeld → u < 256 ^ (n - k + 1) → b ≡ A → A < 256 → u * b ≤ 256 ^ (mostHeld + 1) * 256
+product-small n k u b A h l e s =
+    let z : n - k + 1 ≤ mostHeld + 1 = omega arith in
+    mul-le-mul {n₂ = 256 ^ (mostHeld + 1)} {m₂ = 256} (le-of-lt (lt-of-lt-of-le l (pow-le-pow-right (omega arith) z))) (omega arith)
 
-product-small : (n k w b A : ℕ) → n ≤ mostHeld → w < 256 ^ (n - k) → b ≡ A → A < 256 → w * b ≤ 256 ^ mostHeld * 256
-product-small n k w b A h l e s = mul-le-mul {n₂ = 256 ^ mostHeld} {m₂ = 256} (omega (arith, bound-end n k w h l)) (omega arith)
+pub product-fits : (n k u b A : ℕ) → n ≤ mostHeld → u < 256 ^ (n - k + 1) → b ≡ A → A < 256 → Fits w64 (u * b)
+product-fits n k u b A h l e s = record { fits = omega (arith, product-small n k u b A h l e s) }
 
-pub product-fits : (n k w b A : ℕ) → n ≤ mostHeld → w < 256 ^ (n - k) → b ≡ A → A < 256 → Fits w64 (w * b)
-product-fits n k w b A h l e s = record { fits = omega (arith, product-small n k w b A h l e s) }
+pub node-fits : (n k u b x y A : ℕ) → n ≤ mostHeld → u < 256 ^ (n - k + 1) → b ≡ A → A < 256 → x ≡ y → y < 256 → Fits w64 (u * b + x)
+node-fits n k u b x y A h l e s q t = record { fits = omega (arith, product-small n k u b A h l e s) }
 
-pub word-fits : (n k w b x y A : ℕ) → n ≤ mostHeld → w < 256 ^ (n - k) → b ≡ A → A < 256 → x ≡ y → y < 256 → Fits w64 (w * b + x)
-word-fits n k w b x y A h l e s q t = record { fits = omega (arith, product-small n k w b A h l e s) }
+pub ruleset node-laws = (needs, node-start, node-again, node-end, bound-start, bound-again, product-fits, node-fits)
 
-pub ruleset word-laws = (needs, word-start, word-again, word-end, bound-start, bound-again, bound-end, product-fits, word-fits)
+-- the mask of a node; e is the delay as a number, u the node
 
--- the mask of a node; u, e are bytes as numbers, v a power, w a word
-
-pub mask-is : (masks last : List ℕ) (p A d u e v w r : ℕ) → A ≤ mostActions → d ≤ mostDelay → e ≡ d → v ≡ powerTo A (e / 2)
-    → w ≡ wordOf A (take (e / 2) last) → u ≡ p → r ≡ getD masks (u * v + w) 0
+pub mask-is : (masks last : List ℕ) (p A d e u r : ℕ) → e ≡ d → u ≡ p * A ^ (e / 2) + wordOf A (take (e / 2) last) → r ≡ getD masks u 0
     → r ≡ getD masks (p * A ^ (d / 2) + wordOf A (take (d / 2) last)) 0
-mask-is masks last p A d u e v w r f g q i j k l =
-    let h : d / 2 ≤ mostHeld = omega arith in
-    let x : v ≡ A ^ (d / 2) = i ∙ ap (λ d. powerTo A (d / 2)) q ∙ small-power A (d / 2) (power-bound A (d / 2) f h) in
-    let y : w ≡ wordOf A (take (d / 2) last) = j ∙ ap (λ d. wordOf A (take (d / 2) last)) q in
-    l ∙ ap (λ n. getD masks n 0) (ap₂ (λ p n. p * n + w) k x ∙ ap (λ w. p * A ^ (d / 2) + w) y)
+mask-is masks last p A d e u r q i l =
+    l ∙ ap (λ n. getD masks n 0) (i ∙ ap (λ d. p * A ^ (d / 2) + wordOf A (take (d / 2) last)) q)
 
-node-small : (u p v : ℕ) → u ≡ p → p < 256 → v ≤ mostPower → u * v ≤ 256 * mostPower
-node-small u p v e h l = mul-le-mul {n₂ = 256} {m₂ = mostPower} (omega arith) l
-
-pub node-fits : (u p v : ℕ) → u ≡ p → p < 256 → v ≤ mostPower → Fits w64 (u * v)
-node-fits u p v e h l = record { fits = omega (arith, node-small u p v e h l) }
-
-pub node-word-fits : (u p v w : ℕ) → u ≡ p → p < 256 → v ≤ mostPower → w < 256 ^ mostHeld → Fits w64 (u * v + w)
-node-word-fits u p v w e h l s = record { fits = omega (arith, node-small u p v e h l) }
+pub few-held : (d e : ℕ) → d ≤ mostDelay → e ≡ d → e / 2 ≤ mostHeld
+few-held d e h q = omega arith
 
 pub lowest-fits : (m : ℕ) → Fits w8 (trailingZeros 8 m)
 lowest-fits m = record { fits = omega (arith, trailing-le 8 m) }
 
-pub ruleset mask-laws = (needs, mask-is, node-fits, node-word-fits, lowest-fits)
+pub ruleset mask-laws = (needs, mask-is, few-held, lowest-fits)

@@ -32,7 +32,8 @@ use Rattle.table.specs.TableSheet.{TableSheet, says, tableAt, decode, numbersOk
 use Rattle.table.specs.declared.reading.TableLayout.{TableLayout}
 use Rattle.table.specs.declared.reading.TableReading.{TableReading}
 use Rattle.table.specs.declared.reading.TableReading.the-variants as table
-use Rattle.state.specs.State.{agrees, lastTurn, unknown, seen, opened, slotAt, heldOk, windowOk, stateOk, pushed, shifted, actedState}
+use Rattle.state.specs.State.{agrees, lastTurn, slots, unknown, seen, opened, slotAt, heldOk, windowOk, stateOk, pushed, shifted, actedState}
+use Rattle.state.specs.StateBytes.{decodeState}
 use Rattle.controller.specs.Controller.{observeWith, wordOf, nextAction, neededKnown, actWith, openAnswer, observeAnswer, actAnswer}
 use Rattle.controller.specs.Accuracy.{observe, act, afterObserving, afterActing, reply}
 use Rattle.controller.specs.Meaning.{stepMeans, openReply}
@@ -68,7 +69,7 @@ module _ (l : TableLayout) (s : State) (b : Bool) (e : b ≡ stateOk (says l [] 
   pub turn-left : not b ≡ false → (s .turn ≡ lastTurn → ⊥) → s .turn < lastTurn
   turn-left g t = omega (arith, turn-few g)
 
--- observing; b is the result of check 20, v the delay as a number, w the slot of the index
+-- observing; b is the result of check 20, v the delay as a number
 
 module _ (l : TableLayout) (s : State) (k p : ℕ) (r : Step) (b : Bool) (e : b ≡ stateOk (says l [] []) s) where
   pub observed-20 : not b ≡ true → r ≡ step (Refused refusal.State) s → stepMeans r ≡ afterObserving s (observeWith (says l [] []) s k p)
@@ -91,11 +92,13 @@ module _ (l : TableLayout) (s : State) (k p : ℕ) (r : Step) (b : Bool) (e : b 
             let o : k + l .delay < 2 * s .turn = omega arith in
             ap stepMeans f ∙ ap (afterObserving s) (sym (observe-17 (says l [] []) s k p (passed e g) h o))
 
-        module _ (d : 2 * s .turn - k ≤ v) (w : Slot) (ew : w ≡ getD (s .window) (2 * s .turn - k) unknown) (a : Bool)
-            (ea : a ≡ agrees w p) where
+        pub age-small : 2 * s .turn - k ≤ v → l .delay ≤ mostDelay → 2 * s .turn - k < slots
+        age-small d short = omega arith
+
+        module _ (d : 2 * s .turn - k ≤ v) (a : Bool) (ea : a ≡ agrees (getD (s .window) (2 * s .turn - k) unknown) p) where
           slot-same : a ≡ agrees (slotAt s (2 * s .turn - k)) p
           unfolding slotAt
-          slot-same = ea ∙ ap (λ w. agrees w p) ew
+          slot-same = ea
 
           pub observed-19 : not a ≡ true → r ≡ step (Refused refusal.Contradiction) s
               → stepMeans r ≡ afterObserving s (observeWith (says l [] []) s k p)
@@ -112,7 +115,7 @@ module _ (l : TableLayout) (s : State) (k p : ℕ) (r : Step) (b : Bool) (e : b 
               ap stepMeans f
               ∙ ap (afterObserving s) (sym (observe-accepts (says l [] []) s k p (passed e g) h o u (passed slot-same t)))
 
-pub ruleset observe-laws = (needs, turn-fits, observed-20, observed-16, observed-18, observed-17, observed-19, observed-accepts)
+pub ruleset observe-laws = (needs, turn-fits, age-small, observed-20, observed-16, observed-18, observed-17, observed-19, observed-accepts)
 
 -- acting; v is the delay as a number
 
@@ -150,6 +153,10 @@ module _ (x : TableSheet) (s : State) where
   unfolding nextAction actionAt
   late-choice h = rw (le-ltb (2 * s .turn) (x .delay) h)
 
+-- the needed observation's slot is one of the window
+pub needed-slot : (l : TableLayout) (f m : List ℕ) (v : ℕ) → v ≡ l .delay → Usable (says l f m) → v < slots
+needed-slot l f m v e u = omega (arith, u .short-delay)
+
 module _ (l : TableLayout) (f m : List ℕ) (s : State) (r : Step) (b : Bool) (e : b ≡ stateOk (says l [] []) s) where
   pub acts-20 : not b ≡ true → r ≡ step (Refused refusal.State) s → stepMeans r ≡ afterActing s (actWith (says l f m) s)
   acts-20 g q = ap stepMeans q ∙ ap (afterActing s) (sym (act-20 (says l f m) s (sym (state-any l f m s) ∙ failed e g)))
@@ -163,34 +170,37 @@ module _ (l : TableLayout) (f m : List ℕ) (s : State) (r : Step) (b : Bool) (e
 
     module _ (t : s .turn ≡ lastTurn → ⊥) where
       module _ (v : ℕ) (ev : v ≡ l .delay) where
-        pub acts-early : (w a : ℕ) → 2 * s .turn < v → w ≡ leastFlagged (record { flags = f; masks = [] })
+        pub acts-early : (w a : ℕ) (g : List ℕ) → 2 * s .turn < v → g ≡ f → w ≡ leastFlagged (record { flags = g; masks = [] })
             → a ≡ digit (l .actions) ((v + 1) / 2) w (s .turn) → r ≡ step (Acted a) (actedState (l .delay) s a)
             → stepMeans r ≡ afterActing s (actWith (says l f m) s)
-        acts-early w a h ew ea q =
+        acts-early w a g h eg ew ea q =
             let o : 2 * s .turn < l .delay = omega arith in
             let c : digit (l .actions) (initialLength (l .delay)) (leastFlagged (record { flags = f; masks = m })) (s .turn) ≡ a =
-            ap₂ (λ d w. digit (l .actions) ((d + 1) / 2) w (s .turn)) (sym ev) (sym (ew ∙ least-any f m)) ∙ sym ea in
+            ap₂ (λ d w. digit (l .actions) ((d + 1) / 2) w (s .turn)) (sym ev) (sym (ew ∙ ap (λ f. leastFlagged (record { flags = f; masks = [] })) eg ∙ least-any f m)) ∙ sym ea in
             ap stepMeans q
             ∙ ap (afterActing s)
             (sym
             (act-answers (says l f m) s good t (early-known (says l f m) s o) a (early-choice (says l f m) s o ∙ ap some c)))
 
-        module _ (late : v ≤ 2 * s .turn) (w : Slot) (ew : w ≡ getD (s .window) v unknown) where
+        module _ (late : v ≤ 2 * s .turn) where
+          abbrev w : Slot
+          w = getD (s .window) v unknown
+
           o : l .delay ≤ 2 * s .turn
           o = omega arith
 
           slot-is : w ≡ slotAt s (l .delay)
           unfolding slotAt
-          slot-is = ew ∙ ap (λ d. getD (s .window) d unknown) ev
+          slot-is = ap (λ d. getD (s .window) d unknown) ev
 
-          pub acts-13 : not (w .known) ≡ true → r ≡ step (Refused refusal.Unobserved) s
+          pub acts-13 : not (getD (s .window) v unknown .known) ≡ true → r ≡ step (Refused refusal.Unobserved) s
               → stepMeans r ≡ afterActing s (actWith (says l f m) s)
           acts-13 k q =
               let z = late-known (says l f m) s o ∙ ap (λ (w : Slot). w .known) (sym slot-is) ∙ not-true (w .known) k in
               ap stepMeans q ∙ ap (afterActing s) (sym (act-13 (says l f m) s good t z))
 
-          module _ (k : not (w .known) ≡ false) (n : ℕ)
-              (en : n ≡ getD m (w .position * l .actions ^ (l .delay / 2) + wordOf (l .actions) (take (l .delay / 2) (s .last))) 0) where
+          module _ (k : not (getD (s .window) v unknown .known) ≡ false) (n : ℕ) (j : List ℕ) (ej : j ≡ m)
+              (en : n ≡ getD j (getD (s .window) v unknown .position * l .actions ^ (l .delay / 2) + wordOf (l .actions) (take (l .delay / 2) (s .last))) 0) where
             needed-known : neededKnown (says l f m) s ≡ true
             needed-known = late-known (says l f m) s o ∙ ap (λ (w : Slot). w .known) (sym slot-is) ∙ not-false (w .known) k
 
@@ -200,6 +210,9 @@ module _ (l : TableLayout) (f m : List ℕ) (s : State) (r : Step) (b : Bool) (e
                 (λ (w : Slot).
                 getD m (w .position * l .actions ^ (l .delay / 2) + wordOf (l .actions) (take (l .delay / 2) (s .last))) 0)
                 (sym slot-is)
+                ∙ ap
+                (λ j. getD j (w .position * l .actions ^ (l .delay / 2) + wordOf (l .actions) (take (l .delay / 2) (s .last))) 0)
+                (sym ej)
                 ∙ sym en
 
             action-is : nextAction (says l f m) s ≡ lowestIn (l .actions) n
@@ -221,7 +234,7 @@ module _ (l : TableLayout) (f m : List ℕ) (s : State) (r : Step) (b : Bool) (e
                 (act-answers (says l f m) s good t needed-known a
                 (action-is ∙ lowest-acts (l .actions) n z ∙ ap some (sym c ∙ sym ea))))
 
-pub ruleset act-laws = (needs, turn-fits, turn-left, acts-20, acts-15, acts-early, acts-13, acts-14, acts-late)
+pub ruleset act-laws = (needs, turn-fits, turn-left, needed-slot, acts-20, acts-15, acts-early, acts-13, acts-14, acts-late)
 
 -- a readable sheet
 
@@ -258,15 +271,15 @@ observe-any : (l : TableLayout) (f m : List ℕ) (s : State) (k p : ℕ) → obs
 unfolding observeWith stateOk heldOk windowOk
 observe-any l f m s k p = refl
 
--- the public operations; y is the reading
+-- the public operations; y is the reading, z the state's bytes
 
 module _ (t : List ℕ) (y : TableReading) (ey : tableReadingMeans t y ≡ tableAnswer t) where
   module _ (l : TableLayout) (el : y ≡ table.Accepted l) where
     readable : tableAnswer t ≡ accepted (tableAt t l)
     readable = sym ey ∙ ap (tableReadingMeans t) el
 
-    pub read-usable : (f m : List ℕ) → f ≡ partAt t (l .flags) → m ≡ partAt t (l .masks) → Usable (says l f m)
-    read-usable f m ef em = rw (ef, em) (usable t (tableAt t l) readable)
+    pub read-usable : Usable (tableAt t l)
+    read-usable = usable t (tableAt t l) readable
 
     pub read-short : l .delay ≤ mostDelay
     read-short = usable t (tableAt t l) readable .short-delay
@@ -275,15 +288,19 @@ module _ (t : List ℕ) (y : TableReading) (ey : tableReadingMeans t y ≡ table
     unfolding openAnswer onAccepted
     opens-read r s o q = ap stepMeans q ∙ ap (λ s. stepMeans (step Accepted s)) o ∙ rw readable
 
-    pub observes-read : (r : Step) (s : State) (k p : ℕ) → stepMeans r ≡ afterObserving s (observeWith (says l [] []) s k p)
-        → stepMeans r ≡ reply t s (observe k p)
+    pub observes-read : (r : Step) (s : State) (z : List ℕ) (k p : ℕ) → s ≡ decodeState z
+        → stepMeans r ≡ afterObserving s (observeWith (says l [] []) s k p) → stepMeans r ≡ reply t (decodeState z) (observe k p)
     unfolding observeAnswer onAccepted
-    observes-read r s k p q = q ∙ ap (afterObserving s) (observe-any l (partAt t (l .flags)) (partAt t (l .masks)) s k p) ∙ rw readable
+    observes-read r s z k p e q =
+        q
+        ∙ ap (afterObserving s) (observe-any l (partAt t (l .flags)) (partAt t (l .masks)) s k p)
+        ∙ ap (λ s. afterObserving s (observeWith (tableAt t l) s k p)) e
+        ∙ rw readable
 
-    pub acts-read : (r : Step) (s : State) (f m : List ℕ) → f ≡ partAt t (l .flags) → m ≡ partAt t (l .masks)
-        → stepMeans r ≡ afterActing s (actWith (says l f m) s) → stepMeans r ≡ reply t s act
+    pub acts-read : (r : Step) (s : State) (z : List ℕ) → s ≡ decodeState z → stepMeans r ≡ afterActing s (actWith (tableAt t l) s)
+        → stepMeans r ≡ reply t (decodeState z) act
     unfolding actAnswer onAccepted
-    acts-read r s f m ef em q = q ∙ ap₂ (λ f m. afterActing s (actWith (says l f m) s)) ef em ∙ rw readable
+    acts-read r s z e q = q ∙ ap (λ s. afterActing s (actWith (tableAt t l) s)) e ∙ rw readable
 
   module _ (n : Refusal) (en : y ≡ table.Refused n) where
     unreadable : tableAnswer t ≡ refused (numberOf n)
@@ -293,12 +310,13 @@ module _ (t : List ℕ) (y : TableReading) (ey : tableReadingMeans t y ≡ table
     unfolding openAnswer onAccepted
     opens-not r s o q = ap stepMeans q ∙ ap (λ s. stepMeans (step (Refused n) s)) o ∙ rw unreadable
 
-    pub observe-not : (r : Step) (s : State) (k p : ℕ) → r ≡ step (Refused n) s → stepMeans r ≡ reply t s (observe k p)
+    pub observe-not : (r : Step) (s : State) (z : List ℕ) (k p : ℕ) → s ≡ decodeState z → r ≡ step (Refused n) s
+        → stepMeans r ≡ reply t (decodeState z) (observe k p)
     unfolding observeAnswer onAccepted
-    observe-not r s k p q = ap stepMeans q ∙ rw unreadable
+    observe-not r s z k p e q = ap stepMeans q ∙ ap (λ s. stepMeans (step (Refused n) s)) e ∙ rw unreadable
 
-    pub acts-not : (r : Step) (s : State) → r ≡ step (Refused n) s → stepMeans r ≡ reply t s act
+    pub acts-not : (r : Step) (s : State) (z : List ℕ) → s ≡ decodeState z → r ≡ step (Refused n) s → stepMeans r ≡ reply t (decodeState z) act
     unfolding actAnswer onAccepted
-    acts-not r s q = ap stepMeans q ∙ rw unreadable
+    acts-not r s z e q = ap stepMeans q ∙ ap (λ s. stepMeans (step (Refused n) s)) e ∙ rw unreadable
 
 pub ruleset call-laws = (needs, read-usable, read-short, opens-read, observes-read, acts-read, opens-not, observe-not, acts-not)

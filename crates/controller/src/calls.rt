@@ -1,4 +1,4 @@
-// Opening, observing and acting, over the bytes of a table sheet: each reads them on every call.
+// Opening, observing and acting, over the bytes of a table sheet, which each reads on every call, and of a state.
 use crate::turn::action_of;
 use crate::turn::least_flagged;
 use crate::turn::lowest;
@@ -6,22 +6,24 @@ use crate::turn::mask_at;
 use sheet::form::part;
 use sheet::form::wide;
 use sheet::refusal::Refusal;
+use state::bytes::STATE_BYTES;
+use state::bytes::decode;
 use state::checks::state_ok;
 use state::state::LAST_TURN;
 use state::state::Slot;
 use state::state::State;
 use state::state::pushed;
 use state::state::shifted;
-use state::state::slot_in;
 use table::reading::TableLayout;
 use table::reading::TableReading;
 use table::reading::read;
 ghost use mathlib.Core.Path.{_≡_};
 ghost use mathlib.Core.List.{[]};
 ghost use Prim.Native.Nat.{_≤_, _<_};
-ghost use Rattle.table.specs.TableSheet.{says};
+ghost use Rattle.table.specs.TableSheet.{says, tableAt};
 ghost use Rattle.sheet.specs.Limits.{mostDelay};
 ghost use Rattle.state.specs.State.{lastTurn, actedState};
+ghost use Rattle.state.specs.StateBytes.{decodeState};
 ghost use Rattle.controller.specs.Controller.{observeWith, actWith};
 ghost use Rattle.controller.specs.Accuracy.{observe, act, afterObserving, afterActing, reply};
 ghost use Rattle.controller.specs.Meaning.{stepMeans, openReply};
@@ -96,8 +98,7 @@ fn observe_with(l: TableLayout, s: State, index: usize, position: u8) -> Step
     if wide(l.delay) < age {
         return refuse(s, Refusal::TooOld);
     }
-    let window = s.window;
-    if !slot_in(window, age).agrees(position) {
+    if !s.window[age].agrees(position) {
         return refuse(s, Refusal::Contradiction);
     }
     let mut next = s;
@@ -108,10 +109,10 @@ fn observe_with(l: TableLayout, s: State, index: usize, position: u8) -> Step
     accept(next)
 }
 
-// Acting, after 10 to 12, with the W and T bodies.
-fn act_with(l: TableLayout, flags: &[u8], masks: &[u8], s: State) -> Step
-    requires { ⌜ Usable (says l (now flags) (now masks)) ⌝ }
-    ensures { λ r. ⌜ stepMeans r ≡ afterActing s (actWith (says l (now (flags .entry)) (now (masks .entry))) s) ⌝ }
+// Acting, after 10 to 12.
+fn act_with(l: TableLayout, sheet: &[u8], s: State) -> Step
+    requires { ⌜ Usable (tableAt (now sheet) l) ⌝ }
+    ensures { λ r. ⌜ stepMeans r ≡ afterActing s (actWith (tableAt (now (sheet .entry)) l) s) ⌝ }
 {
     if !state_ok(l, s) {
         return refuse(s, Refusal::State);
@@ -122,20 +123,20 @@ fn act_with(l: TableLayout, flags: &[u8], masks: &[u8], s: State) -> Step
     }
     let delay = wide(l.delay);
     if 2 * turn < delay {
-        let word = least_flagged(flags);
+        let flags = l.flags;
+        let word = least_flagged(part(sheet, flags));
         return take_turn(
             l.delay,
             s,
             action_of(l.actions, (delay + 1) / 2, word, turn),
         );
     }
-    let window = s.window;
-    let slot = slot_in(window, delay);
-    if !slot.known {
+    if !s.window[delay].known {
         return refuse(s, Refusal::Unobserved);
     }
     let last = s.last;
-    let mask = mask_at(l, masks, slot.position, last);
+    let masks = l.masks;
+    let mask = mask_at(l, part(sheet, masks), s.window[delay].position, last);
     if mask == 0 {
         return refuse(s, Refusal::NoAction);
     }
@@ -153,26 +154,23 @@ pub fn opening(sheet: &[u8]) -> Step
     }
 }
 
-// "Hearing a report": a position at an index.
-pub fn observe(sheet: &[u8], s: State, index: usize, position: u8) -> Step
-    ensures { λ r. ⌜ stepMeans r ≡ reply (now (sheet .entry)) s (observe index position) ⌝ }
+// "Hearing a report": a position at an index. The state's bytes are decoded after the sheet is read, so that nothing of it has to be kept
+// meanwhile.
+pub fn observe(sheet: &[u8], state: &[u8; STATE_BYTES], index: usize, position: u8) -> Step
+    ensures { λ r. ⌜ stepMeans r ≡ reply (now (sheet .entry)) (decodeState (now (state .entry))) (observe index position) ⌝ }
 {
     match read(sheet) {
-        TableReading::Accepted(l) => observe_with(l, s, index, position),
-        TableReading::Refused(reason) => refuse(s, reason),
+        TableReading::Accepted(l) => observe_with(l, decode(state), index, position),
+        TableReading::Refused(reason) => refuse(decode(state), reason),
     }
 }
 
 // "Giving the command of turn i", the state's.
-pub fn act(sheet: &[u8], s: State) -> Step
-    ensures { λ r. ⌜ stepMeans r ≡ reply (now (sheet .entry)) s act ⌝ }
+pub fn act(sheet: &[u8], state: &[u8; STATE_BYTES]) -> Step
+    ensures { λ r. ⌜ stepMeans r ≡ reply (now (sheet .entry)) (decodeState (now (state .entry))) act ⌝ }
 {
     match read(sheet) {
-        TableReading::Accepted(l) => {
-            let flags = l.flags;
-            let masks = l.masks;
-            act_with(l, part(sheet, flags), part(sheet, masks), s)
-        }
-        TableReading::Refused(reason) => refuse(s, reason),
+        TableReading::Accepted(l) => act_with(l, sheet, decode(state)),
+        TableReading::Refused(reason) => refuse(decode(state), reason),
     }
 }

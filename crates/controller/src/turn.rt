@@ -1,7 +1,6 @@
 // The action of a turn: the least first word's while 2i < d, else the lowest in the mask of the needed observation's node.
 use sheet::form::byte;
 use sheet::form::wide;
-use sheet::size::power;
 use state::state::HELD;
 use table::reading::TableLayout;
 ghost use mathlib.Core.Path.{_≡_};
@@ -11,7 +10,7 @@ ghost use lib.ListN.{getD, take};
 ghost use lib.Count.{trailingZeros};
 ghost use Rattle.theory.specs.Words.{digit};
 ghost use Rattle.theory.specs.Exact.{leastFlagged};
-ghost use Rattle.sheet.specs.Limits.{mostActions, mostDelay};
+ghost use Rattle.sheet.specs.Limits.{mostDelay};
 ghost use Rattle.state.specs.State.{mostHeld};
 ghost use Rattle.controller.specs.Controller.{wordOf};
 
@@ -47,33 +46,28 @@ pub(crate) fn action_of(actions: u8, n: usize, word: usize, i: usize) -> u8
     (left % base) as u8
 }
 
-// The word of the n newest actions, the oldest leading.
-fn word_of(actions: u8, last: [u8; HELD], n: usize) -> usize
+// The node of a position and the word of the n newest actions, the oldest leading.
+fn node_of(actions: u8, position: u8, last: [u8; HELD], n: usize) -> usize
     requires { ⌜ n ≤ mostHeld ⌝ }
-    ensures { λ r. ⌜ (r ≡ wordOf actions (take n last)) × (r < 256 ^ mostHeld) ⌝ }
+    ensures { λ r. ⌜ r ≡ position * actions ^ n + wordOf actions (take n last) ⌝ }
 {
     let base = wide(actions);
-    let mut word: usize = 0;
+    let mut node = wide(position);
     let mut k = n;
     while 0 < k {
         k -= 1;
-        word = word * base + wide(last[k]);
+        node = node * base + wide(last[k]);
     }
-    word
+    node
 }
 
 // The mask of the node of a position and the actions held.
 pub(crate) fn mask_at(l: TableLayout, masks: &[u8], position: u8, last: [u8; HELD]) -> u8
-    requires { ⌜ (l .actions ≤ mostActions) × (l .delay ≤ mostDelay) ⌝ }
+    requires { ⌜ l .delay ≤ mostDelay ⌝ }
     ensures { λ r. ⌜ r
         ≡ getD (now (masks .entry)) (position * l .actions ^ (l .delay / 2) + wordOf (l .actions) (take (l .delay / 2) last)) 0 ⌝ }
 {
-    let pending = wide(l.delay) / 2;
-    let words = power(l.actions, pending);
-    byte(
-        masks,
-        wide(position) * words + word_of(l.actions, last, pending),
-    )
+    byte(masks, node_of(l.actions, position, last, wide(l.delay) / 2))
 }
 
 // The lowest action in a mask.

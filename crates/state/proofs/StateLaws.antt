@@ -79,18 +79,19 @@ module _ (actions : ℕ) (last : List ℕ) (k : ℕ) where
   unfolding heldAt
   held-none e h = ap (λ a. ltb a actions) (sym (List·getD-eq-default last 0 (omega arith)))
 
-module _ (highest : ℕ) (window : List Slot) (k : ℕ) (v : Slot) where
-  pub within-known : v ≡ getD window k unknown → v .known ≡ true → leb (v .position) highest ≡ withinAt highest window k
+module _ (highest : ℕ) (window : List Slot) (k : ℕ) where
+  pub within-known : getD window k unknown .known ≡ true → leb (getD window k unknown .position) highest ≡ withinAt highest window k
   unfolding withinAt either
-  within-known e f =
-      ap (λ (v : Slot). leb (v .position) highest) e
-      ∙ rw (ap (λ (v : Slot). v .known) (sym e) ∙ f)
+  within-known e = rw e
 
-  pub within-unknown : v ≡ getD window k unknown → v .known ≡ false → true ≡ withinAt highest window k
+  pub within-unknown : getD window k unknown .known ≡ false → true ≡ withinAt highest window k
   unfolding withinAt either
-  within-unknown e f = rw (ap (λ (v : Slot). v .known) (sym e) ∙ f)
+  within-unknown e = rw e
 
-pub ruleset check-laws = (needs, all-none, all-next, loop-stopped, loop-done, held-is, held-none, within-known, within-unknown)
+  pub within-none : length window ≡ slots → slots ≤ k → true ≡ withinAt highest window k
+  within-none e h = within-unknown (ap (λ (v : Slot). v .known) (List·getD-eq-default window unknown (omega arith)))
+
+pub ruleset check-laws = (needs, all-none, all-next, loop-stopped, loop-done, held-is, held-none, within-known, within-unknown, within-none)
 
 -- check 20; v is the delay as a number, n and m how many actions and slots are looked at, r and q the tests' results
 

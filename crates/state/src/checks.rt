@@ -4,7 +4,6 @@ use crate::state::LAST_TURN;
 use crate::state::SLOTS;
 use crate::state::Slot;
 use crate::state::State;
-use crate::state::slot_in;
 use sheet::form::wide;
 use table::reading::TableLayout;
 ghost use mathlib.Core.Path.{_≡_};
@@ -41,12 +40,15 @@ fn held_ok(actions: u8, last: [u8; HELD], n: usize) -> bool
     true
 }
 
+// A slot's fields are read where it lies: copying it out costs more than the test.
 fn within_at(highest: u8, window: [Slot; SLOTS], k: usize) -> bool
     ensures { λ r. ⌜ r ≡ withinAt highest window k ⌝ }
 {
-    let slot = slot_in(window, k);
-    if slot.known {
-        return slot.position <= highest;
+    if SLOTS <= k {
+        return true;
+    }
+    if window[k].known {
+        return window[k].position <= highest;
     }
     true
 }

@@ -1,38 +1,41 @@
 -- Checks 10 to 12 and the masks, as the code of src/reading.rt finds them: the checks before have passed, and one fails.
 -- Assumes nothing.
-use Prim.Native.Nat.{ℕ, _+_, _-_, _*_, _/_, _^_, _≤_, _<_}
-use mathlib.Core.Path.{_≡_, refl, sym, _∙_, ap}
+use Prim.Native.Nat.{ℕ, _+_, _-_, _*_, _/_, _%_, _^_, _≤_, _<_}
+use mathlib.Core.Path.{_≡_, refl, sym, _∙_, ap, ap₂}
 use mathlib.Core.Bool.{Bool, true, false, not}
 use mathlib.Core.Logic.{⊎-elim}
 use mathlib.Core.List.{List, []}
 use native.Mathlib.Omega.{arith}
-use native.Mathlib.Nat.{div-eq-of-lt, div-lt-iff-lt-mul}
+use native.Mathlib.Nat.{div-eq-of-lt, div-lt-iff-lt-mul, mul-le-mul, mul-one, one-mul, pow-zero, pow-suc}
 use native.Mathlib.Numerals.{add-one}
 use lib.Bits.{bitOr, or-lt, or-add-and, and-le-l, and-le-r}
 use lib.Dec.{eqb, leb, ltb}
-use lib.Pow.{pow-pos, pow-mono}
+use lib.Pow.{pow-pos, pow-mono, pow-add}
 use lib.ListN.{length, getD}
+use mir.Syntax.{w64}
+use mir.Val.{Fits}
 use borrow.Author.Needs.{needs}
 use borrow.Author.Tests.{leb-true, le-leb, lt-leb, lt-ltb, le-ltb, eq-eqb, ne-eqb}
 use Rattle.theory.specs.Fold.{both, allBelow, anyBelow}
 use Rattle.theory.specs.Answer.{Answer, refused, accepted, check, onAccepted}
 use Rattle.theory.specs.Strategy.{initialLength}
 use Rattle.theory.specs.Table.{Table, flagged}
-use Rattle.theory.proofs.Answer.{check-passed}
+use Rattle.theory.proofs.Answer.{check-passed, check-failed, check-both}
 use Rattle.theory.proofs.Fold.{below?, both-true, both-false, both-left, both-right, all-none, all-suc, all-below, any-none, any-holds, any-again, any-done, both-none, both-second, failed, passed}
 use Rattle.sheet.specs.Limits.{width, mostActions, mostDelay, mostNodes}
 use Rattle.sheet.specs.Form.{contentsOk, placedAt, partAt, bodyOf}
 use Rattle.sheet.specs.Checks.{nodesOf}
-use Rattle.sheet.specs.code.Steps.{powerTo}
+use Rattle.sheet.specs.code.Steps.{powerTo, mostPower}
 use Rattle.sheet.specs.Refusals.{numberOf}
 use Rattle.sheet.specs.declared.form.Place.{Place}
 use Rattle.sheet.specs.declared.refusal.Refusal.{Refusal}
 use Rattle.table.specs.TableSheet.{TableSheet, tableLetters, tableLayout, says, tableAt, decode, tableNodes, numbersOk, belowAt, bytesBelow, bodiesOk, shapeAnswer, someFlagged, tableAnswer}
 use Rattle.table.specs.TableSheet.{masksIn, masksOf, tableReadingMeans}
+use Rattle.table.specs.code.Steps.{rangesOk, filledOk}
 use Rattle.table.specs.declared.reading.TableLayout.{TableLayout}
 use Rattle.table.specs.declared.reading.TableReading.{TableReading}
 use Rattle.table.specs.declared.reading.TableReading.the-variants.{Accepted, Refused}
-use Rattle.sheet.proofs.SizeLaws.{nodes-small, words-small}
+use Rattle.sheet.proofs.SizeLaws.{power-bound, small-power}
 
 -- the layout
 
@@ -46,41 +49,38 @@ pub ruleset layouts = (needs, layout-is)
 
 -- 11, the S body
 
-module _ (size : ℕ) (l : TableLayout) where
-  pub size-wrong : (size ≡ 4 → ⊥) → false ≡ numbersOk size (says l [] [])
-  unfolding numbersOk
-  size-wrong e = sym (both-none _ _ (ne-eqb _ _ e))
+module _ (l : TableLayout) where
+  pub no-action : l .actions < 1 → false ≡ rangesOk (says l [] [])
+  unfolding rangesOk
+  no-action e = sym (both-none _ _ (lt-leb 1 (l .actions) e))
 
-  pub no-action : l .actions < 1 → false ≡ numbersOk size (says l [] [])
-  unfolding numbersOk
-  no-action e = sym (both-false _ _ (both-none _ _ (lt-leb 1 (l .actions) e)))
+  pub many-actions : mostActions < l .actions → false ≡ rangesOk (says l [] [])
+  unfolding rangesOk
+  many-actions e = sym (both-false _ _ (both-none _ _ (lt-leb (l .actions) mostActions e)))
 
-  pub many-actions : mostActions < l .actions → false ≡ numbersOk size (says l [] [])
-  unfolding numbersOk
-  many-actions e = sym (both-false _ _ (both-false _ _ (both-none _ _ (lt-leb (l .actions) mostActions e))))
+  pub long-delay : mostDelay < l .delay → false ≡ rangesOk (says l [] [])
+  unfolding rangesOk
+  long-delay e = sym (both-false _ _ (both-false _ _ (both-none _ _ (lt-leb (l .delay) mostDelay e))))
 
-  pub long-delay : mostDelay < l .delay → false ≡ numbersOk size (says l [] [])
-  unfolding numbersOk
-  long-delay e = sym (both-false _ _ (both-false _ _ (both-false _ _ (both-none _ _ (lt-leb (l .delay) mostDelay e)))))
+  pub numbers-end : 1 ≤ l .actions → l .actions ≤ mostActions → l .delay ≤ mostDelay → leb (l .start) (l .highest) ≡ rangesOk (says l [] [])
+  unfolding rangesOk
+  numbers-end a b d = sym (both-second _ _ (le-leb _ _ a) ∙ both-second _ _ (le-leb _ _ b) ∙ both-second _ _ (le-leb _ _ d))
 
-  pub high-start : l .highest < l .start → false ≡ numbersOk size (says l [] [])
-  unfolding numbersOk
-  high-start e =
-      sym (both-false _ _ (both-false _ _ (both-false _ _ (both-false _ _ (both-none _ _ (lt-leb (l .start) (l .highest) e))))))
+pub ruleset numbers = (needs, no-action, many-actions, long-delay, numbers-end)
 
-  pub numbers-end : (v r : ℕ) → size ≡ 4 → 1 ≤ l .actions → l .actions ≤ mostActions → l .delay ≤ mostDelay → l .start ≤ l .highest → v ≡ l .highest
-      → r ≡ (v + 1) * powerTo (l .actions) (l .delay / 2) → leb r mostNodes ≡ numbersOk size (says l [] [])
-  unfolding numbersOk tableNodes
-  numbers-end v r e a b d h g n =
-      ap (λ m. leb m mostNodes) (rw g at (nodes-small (l .actions) (l .delay) b d (v + 1) r n))
-      ∙ sym
-      (both-second _ _ (eq-eqb _ _ e)
-      ∙ both-second _ _ (le-leb _ _ a)
-      ∙ both-second _ _ (le-leb _ _ b)
-      ∙ both-second _ _ (le-leb _ _ d)
-      ∙ both-second _ _ (le-leb _ _ h))
+-- the number of first words
 
-pub ruleset numbers = (needs, size-wrong, no-action, many-actions, long-delay, high-start, numbers-end)
+module _ (A d n : ℕ) where
+  pub words-even : d % 2 ≡ 0 → n ≡ n * A ^ (d % 2)
+  words-even e = sym (rw (e, pow-zero A) (mul-one n))
+
+  pub words-odd : (v : ℕ) → (d % 2 ≡ 0 → ⊥) → v ≡ A → n * v ≡ n * A ^ (d % 2)
+  words-odd v e q = let z : d % 2 ≡ 1 = omega arith in rw (z, q, pow-suc A 0, pow-zero A, one-mul A)
+
+pub words-fit : (n v A : ℕ) → n ≤ mostPower → v ≡ A → A < 256 → Fits w64 (n * v)
+words-fit n v A h e l = let m : n * v ≤ mostPower * 256 = mul-le-mul {m₂ = 256} h (omega arith) in record { fits = omega arith }
+
+pub ruleset words = (needs, words-even, words-odd, words-fit)
 
 -- no byte with a bit at n or above, which is one below 2 ^ n; a is what the bytes before k have together
 
@@ -132,94 +132,149 @@ module _ (n : ℕ) (b : List ℕ) where
 
 pub ruleset bits = (needs, bits-none, bits-all, bits-first, bits-more, bits-done)
 
--- 11, the W and T bodies; v is the highest position as a number, x and n what the lengths must be, r a test's result
+-- 11, the number of nodes and the W and T bodies; d and v are the delay and the highest position as numbers, p is a power, n how many
+-- nodes there are, x how many first words, r a test's result
 
-module _ (l : TableLayout) (w t : List ℕ) (few : l .actions ≤ mostActions) (short : l .delay ≤ mostDelay) (x : ℕ)
-    (ex : x ≡ powerTo (l .actions) (initialLength (l .delay))) where
-  words-are : x ≡ l .actions ^ initialLength (l .delay)
-  words-are = words-small (l .actions) (l .delay) few short x ex
+pub nodes-fit : (v h p : ℕ) → v ≡ h → h < 256 → p ≤ mostPower → Fits w64 ((v + 1) * p)
+nodes-fit v h p e s l = let m : (v + 1) * p ≤ 256 * mostPower = mul-le-mul {n₂ = 256} (omega arith) l in record { fits = omega arith }
 
-  pub words-wrong : (length w ≡ x → ⊥) → false ≡ bodiesOk (says l w t)
-  unfolding bodiesOk
-  words-wrong e = sym (both-none _ _ (ne-eqb _ _ (λ f. e (f ∙ sym words-are))))
+module _ (l : TableLayout) (w t : List ℕ) (few : l .actions ≤ mostActions) (short : l .delay ≤ mostDelay) (d v p : ℕ) (ed : d ≡ l .delay)
+    (ev : v ≡ l .highest) (ep : p ≡ powerTo (l .actions) (d / 2)) where
+  pending-are : p ≡ l .actions ^ (l .delay / 2)
+  pending-are =
+      ep
+      ∙ ap (λ d. powerTo (l .actions) (d / 2)) ed
+      ∙ small-power (l .actions) (l .delay / 2) (power-bound (l .actions) (l .delay / 2) few (omega arith))
 
-  module _ (v n : ℕ) (ev : v ≡ l .highest) (en : n ≡ (v + 1) * powerTo (l .actions) (l .delay / 2)) where
-    nodes-are : n ≡ tableNodes (says l w t)
-    unfolding tableNodes
-    nodes-are =
-        nodes-small (l .actions) (l .delay) few short (v + 1) n en
-        ∙ ap (λ h. nodesOf (h + 1) (l .actions) (l .delay)) ev
+  nodes-are : (v + 1) * p ≡ tableNodes (says l w t)
+  unfolding tableNodes nodesOf
+  nodes-are = ap₂ (λ v p. (v + 1) * p) ev pending-are
 
-    pub nodes-wrong : (length t ≡ n → ⊥) → false ≡ bodiesOk (says l w t)
+  pub nodes-over : mostNodes < (v + 1) * p → false ≡ filledOk (says l w t)
+  unfolding filledOk
+  nodes-over h = sym (both-none _ _ (lt-leb _ _ (rw nodes-are at h)))
+
+  module _ (h : (v + 1) * p ≤ mostNodes) where
+    in-range : filledOk (says l w t) ≡ bodiesOk (says l w t)
+    unfolding filledOk
+    in-range = both-second _ _ (le-leb _ _ (rw nodes-are at h))
+
+    pub nodes-wrong : (length t ≡ (v + 1) * p → ⊥) → false ≡ filledOk (says l w t)
     unfolding bodiesOk
-    nodes-wrong e = sym (both-false _ _ (both-none _ _ (ne-eqb _ _ (λ f. e (f ∙ sym nodes-are)))))
+    nodes-wrong e = sym (in-range ∙ both-false _ _ (both-none _ _ (ne-eqb _ _ (λ f. e (f ∙ sym nodes-are)))))
 
-    module _ (r : Bool) (er : r ≡ bytesBelow 2 w) where
-      pub flag-over : not r ≡ true → false ≡ bodiesOk (says l w t)
+    module _ (x : ℕ) (ex : x ≡ p * l .actions ^ (l .delay % 2)) where
+      words-are : x ≡ l .actions ^ initialLength (l .delay)
+      words-are =
+          let q : l .delay / 2 + l .delay % 2 ≡ initialLength (l .delay) = omega arith in
+          ex
+          ∙ ap (λ p. p * l .actions ^ (l .delay % 2)) pending-are
+          ∙ sym (pow-add (l .actions) (l .delay / 2) (l .delay % 2))
+          ∙ ap (λ n. l .actions ^ n) q
+
+      pub words-wrong : (length w ≡ x → ⊥) → false ≡ filledOk (says l w t)
       unfolding bodiesOk
-      flag-over g = sym (both-false _ _ (both-false _ _ (both-none _ _ (failed er g))))
+      words-wrong e = sym (in-range ∙ both-none _ _ (ne-eqb _ _ (λ f. e (f ∙ sym words-are))))
 
-      pub bodies-end : (q : Bool) → length w ≡ x → length t ≡ n → not r ≡ false → q ≡ bytesBelow (2 ^ l .actions) t → q ≡ bodiesOk (says l w t)
-      unfolding bodiesOk
-      bodies-end q ew et g eq =
-          eq
-          ∙ sym
-          (both-second _ _ (eq-eqb _ _ (ew ∙ words-are)) ∙ both-second _ _ (eq-eqb _ _ (et ∙ nodes-are)) ∙ both-second _ _ (passed er g))
+      module _ (r : Bool) (er : r ≡ bytesBelow 2 w) where
+        pub flag-over : not r ≡ true → false ≡ filledOk (says l w t)
+        unfolding bodiesOk
+        flag-over g = sym (in-range ∙ both-false _ _ (both-false _ _ (both-none _ _ (failed er g))))
 
-pub ruleset bodies = (needs, words-wrong, nodes-wrong, flag-over, bodies-end)
+        pub bodies-end : (q : Bool) → length t ≡ (v + 1) * p → length w ≡ x → not r ≡ false → q ≡ bytesBelow (2 ^ l .actions) t
+            → q ≡ filledOk (says l w t)
+        unfolding bodiesOk
+        bodies-end q et ew g eq =
+            eq
+            ∙ sym
+            (in-range
+            ∙ both-second _ _ (eq-eqb _ _ (ew ∙ words-are))
+            ∙ both-second _ _ (eq-eqb _ _ (et ∙ nodes-are))
+            ∙ both-second _ _ (passed er g))
+
+pub ruleset bodies = (needs, nodes-fit, nodes-over, nodes-wrong, words-wrong, flag-over, bodies-end)
 
 -- 10 and 11 in their order
 
-numbers-any : (n : ℕ) (l : TableLayout) (a b : List ℕ) → numbersOk n (says l [] []) ≡ numbersOk n (says l a b)
-unfolding numbersOk tableNodes
-numbers-any n l a b = refl
+ranges-any : (l : TableLayout) (a b : List ℕ) → rangesOk (says l [] []) ≡ rangesOk (says l a b)
+unfolding rangesOk
+ranges-any l a b = refl
 
 says-same : (s : List ℕ) (l : TableLayout) → l ≡ tableLayout s → tableAt s l ≡ decode s
 unfolding decode
 says-same s l e = ap (tableAt s) e
 
 -- what check 11 leaves of A and the delay
-module _ (n : ℕ) (l : TableLayout) (r : Bool) (e : r ≡ numbersOk n (says l [] [])) (g : not r ≡ false) where
+module _ (l : TableLayout) (r : Bool) (e : r ≡ rangesOk (says l [] [])) (g : not r ≡ false) where
   pub few-actions : l .actions ≤ mostActions
-  unfolding numbersOk
-  few-actions = leb-true _ _ (both-left _ _ (both-right _ _ (both-right _ _ (passed e g))))
+  unfolding rangesOk
+  few-actions = leb-true _ _ (both-left _ _ (both-right _ _ (passed e g)))
 
   pub short-delay : l .delay ≤ mostDelay
-  unfolding numbersOk
-  short-delay = leb-true _ _ (both-left _ _ (both-right _ _ (both-right _ _ (both-right _ _ (passed e g)))))
+  unfolding rangesOk
+  short-delay = leb-true _ _ (both-left _ _ (both-right _ _ (both-right _ _ (passed e g))))
+
+-- the chain as the code divides it
+
+six : {A : Type 0} (a b c d e f : Bool) (n : ℕ) (rest : Answer A) → check (both a (both b (both c (both d (both e f))))) n rest
+    ≡ check a n (check (both b (both c (both d e))) n (check f n rest))
+unfolding check both
+six false b c d e f n rest = refl
+six true false c d e f n rest = refl
+six true true false d e f n rest = refl
+six true true true false e f n rest = refl
+six true true true true e f n rest = check-both e f n rest
+
+shape-chain : (s : List ℕ) → shapeAnswer s
+    ≡ check (contentsOk width tableLetters s) 10
+    (check (eqb (length (bodyOf width s 0)) 4) 11 (check (rangesOk (decode s)) 11 (check (filledOk (decode s)) 11 (accepted (decode s)))))
+unfolding shapeAnswer numbersOk rangesOk filledOk
+shape-chain s =
+    ap (check (contentsOk width tableLetters s) 10)
+    (six _ _ _ _ _ _ 11 _
+    ∙ ap (λ a. check (eqb (length (bodyOf width s 0)) 4) 11 (check (rangesOk (decode s)) 11 a)) (sym (check-both _ _ 11 (accepted (decode s)))))
 
 module _ (s : List ℕ) (r₁ : Bool) (e₁ : r₁ ≡ contentsOk width tableLetters s) where
   pub refuses-10 : not r₁ ≡ true → refused 10 ≡ shapeAnswer s
   unfolding shapeAnswer check
   refuses-10 x = rw (failed e₁ x)
 
-  module _ (t₁ : not r₁ ≡ false) (l : TableLayout) (el : l ≡ tableLayout s) (h : List ℕ) (eh : h ≡ bodyOf width s 0) (r₂ : Bool)
-      (e₂ : r₂ ≡ numbersOk (length h) (says l [] [])) where
-    two : r₂ ≡ numbersOk (length (bodyOf width s 0)) (decode s)
-    two = e₂ ∙ ap (λ b. numbersOk (length b) (says l [] [])) eh ∙ numbers-any _ l _ _ ∙ ap (numbersOk _) (says-same s l el)
+  module _ (t₁ : not r₁ ≡ false) (h : List ℕ) (eh : h ≡ bodyOf width s 0) where
+    pub size-wrong : (length h ≡ 4 → ⊥) → refused 11 ≡ shapeAnswer s
+    size-wrong x =
+        sym
+        (shape-chain s
+        ∙ check-passed _ _ _ (passed e₁ t₁)
+        ∙ check-failed _ _ _ (ne-eqb _ _ (λ f. x (ap length eh ∙ f))))
 
-    pub refuses-11 : not r₂ ≡ true → refused 11 ≡ shapeAnswer s
-    unfolding shapeAnswer check
-    refuses-11 x = rw (passed e₁ t₁, failed two x)
+    module _ (size : length h ≡ 4) (l : TableLayout) (el : l ≡ tableLayout s) (r₂ : Bool) (e₂ : r₂ ≡ rangesOk (says l [] [])) where
+      after-size : shapeAnswer s ≡ check (rangesOk (decode s)) 11 (check (filledOk (decode s)) 11 (accepted (decode s)))
+      after-size =
+          shape-chain s
+          ∙ check-passed _ _ _ (passed e₁ t₁)
+          ∙ check-passed _ _ _ (eq-eqb _ _ (ap length (sym eh) ∙ size))
 
-    module _ (t₂ : not r₂ ≡ false) (w t : List ℕ) (ew : w ≡ partAt s (l .flags)) (et : t ≡ partAt s (l .masks)) (r₃ : Bool)
-        (e₃ : r₃ ≡ bodiesOk (says l w t)) where
-      three : r₃ ≡ bodiesOk (decode s)
-      three = e₃ ∙ ap (λ b. bodiesOk (says l b t)) ew ∙ ap (λ b. bodiesOk (says l (partAt s (l .flags)) b)) et ∙ ap bodiesOk (says-same s l el)
+      two : r₂ ≡ rangesOk (decode s)
+      two = e₂ ∙ ranges-any l _ _ ∙ ap rangesOk (says-same s l el)
 
-      pub refuses-bodies : not r₃ ≡ true → refused 11 ≡ shapeAnswer s
-      unfolding shapeAnswer check
-      refuses-bodies x = rw (passed e₁ t₁, passed two t₂, failed three x)
+      pub refuses-11 : not r₂ ≡ true → refused 11 ≡ shapeAnswer s
+      refuses-11 x = sym (after-size ∙ check-failed _ _ _ (failed two x))
 
-      pub shape-read : (a : Answer TableSheet) → not r₃ ≡ false → a ≡ tableReadingMeans s (Accepted l) → a ≡ shapeAnswer s
-      unfolding shapeAnswer
-      shape-read a x e =
-          e
-          ∙ ap accepted (says-same s l el)
-          ∙ sym
-          (check-passed _ _ _ (passed e₁ t₁) ∙ check-passed _ _ _ (passed two t₂) ∙ check-passed _ _ _ (passed three x))
+      module _ (t₂ : not r₂ ≡ false) (w t : List ℕ) (ew : w ≡ partAt s (l .flags)) (et : t ≡ partAt s (l .masks)) (r₃ : Bool)
+          (e₃ : r₃ ≡ filledOk (says l w t)) where
+        three : r₃ ≡ filledOk (decode s)
+        three = e₃ ∙ ap₂ (λ w t. filledOk (says l w t)) ew et ∙ ap filledOk (says-same s l el)
 
-pub ruleset shapes = (needs, few-actions, short-delay, refuses-10, refuses-11, refuses-bodies, shape-read)
+        pub refuses-bodies : not r₃ ≡ true → refused 11 ≡ shapeAnswer s
+        refuses-bodies x = sym (after-size ∙ check-passed _ _ _ (passed two t₂) ∙ check-failed _ _ _ (failed three x))
+
+        pub shape-read : (a : Answer TableSheet) → not r₃ ≡ false → a ≡ tableReadingMeans s (Accepted l) → a ≡ shapeAnswer s
+        shape-read a x e =
+            e
+            ∙ ap accepted (says-same s l el)
+            ∙ sym (after-size ∙ check-passed _ _ _ (passed two t₂) ∙ check-passed _ _ _ (passed three x))
+
+pub ruleset shapes = (needs, few-actions, short-delay, refuses-10, size-wrong, refuses-11, refuses-bodies, shape-read)
 
 -- a flagged word
 

@@ -1,2 +1,3 @@
 -- Reading a table sheet.
 pub mod TableSheet
+pub mod code

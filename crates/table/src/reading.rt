@@ -10,14 +10,15 @@ use sheet::limits::MOST_ACTIONS;
 use sheet::limits::MOST_DELAY;
 use sheet::limits::MOST_NODES;
 use sheet::refusal::Refusal;
-use sheet::size::nodes_at;
-use sheet::size::words_at;
+use sheet::size::power;
 ghost use mathlib.Core.Path.{_≡_};
 ghost use mathlib.Core.List.{[]};
-ghost use Prim.Native.Nat.{_^_, _≤_};
+ghost use Prim.Native.Nat.{_*_, _%_, _^_, _≤_};
 ghost use Rattle.sheet.specs.Limits.{mostActions, mostDelay};
-ghost use Rattle.table.specs.TableSheet.{tableLayout, says, numbersOk, bytesBelow, bodiesOk, shapeAnswer, someFlagged, tableAnswer};
+ghost use Rattle.sheet.specs.code.Steps.{mostPower};
+ghost use Rattle.table.specs.TableSheet.{tableLayout, says, bytesBelow, shapeAnswer, someFlagged, tableAnswer};
 ghost use Rattle.table.specs.TableSheet.{masksOf, tableReadingMeans};
+ghost use Rattle.table.specs.code.Steps.{rangesOk, filledOk};
 
 // The bits of a byte.
 const BYTE: u8 = 8;
@@ -57,13 +58,10 @@ fn layout_at(s: &[u8]) -> TableLayout
     }
 }
 
-// Check 11, the S body, of so many bytes.
-fn numbers_ok(size: usize, l: TableLayout) -> bool
-    ensures { λ r. ⌜ r ≡ numbersOk size (says l [] []) ⌝ }
+// Check 11, the numbers of the S body one by one.
+fn numbers_ok(l: TableLayout) -> bool
+    ensures { λ r. ⌜ r ≡ rangesOk (says l [] []) ⌝ }
 {
-    if size != 4 {
-        return false;
-    }
     if l.actions < 1 {
         return false;
     }
@@ -73,10 +71,18 @@ fn numbers_ok(size: usize, l: TableLayout) -> bool
     if MOST_DELAY < l.delay {
         return false;
     }
-    if l.highest < l.start {
-        return false;
+    l.start <= l.highest
+}
+
+// How many first words there are where so many words are pending: as many, and at an odd delay as many for each action.
+fn first_words(actions: u8, delay: u8, pending: usize) -> usize
+    requires { ⌜ pending ≤ mostPower ⌝ }
+    ensures { λ r. ⌜ r ≡ pending * actions ^ (delay % 2) ⌝ }
+{
+    if delay % 2 == 0 {
+        return pending;
     }
-    nodes_at((wide(l.highest) + 1) as u16, l.actions, l.delay) <= MOST_NODES
+    pending * wide(actions)
 }
 
 // Has no byte a bit at n or above? Every call of the controller reads its whole sheet: the loop has no exit, so that it compiles to
@@ -97,15 +103,20 @@ fn bits_below(n: u8, b: &[u8]) -> bool
     all >> n == 0
 }
 
-// Check 11, the W and T bodies.
+// Check 11, the number of nodes, and the W and T bodies. Small tables are read in a few nanoseconds, so the power is worked out once.
 fn bodies_ok(l: TableLayout, w: &[u8], t: &[u8]) -> bool
     requires { ⌜ (l .actions ≤ mostActions) × (l .delay ≤ mostDelay) ⌝ }
-    ensures { λ r. ⌜ r ≡ bodiesOk (says l (now (w .entry)) (now (t .entry))) ⌝ }
+    ensures { λ r. ⌜ r ≡ filledOk (says l (now (w .entry)) (now (t .entry))) ⌝ }
 {
-    if w.len() != words_at(l.actions, l.delay) {
+    let pending = power(l.actions, wide(l.delay) / 2);
+    let nodes = (wide(l.highest) + 1) * pending;
+    if MOST_NODES < nodes {
         return false;
     }
-    if t.len() != nodes_at((wide(l.highest) + 1) as u16, l.actions, l.delay) {
+    if t.len() != nodes {
+        return false;
+    }
+    if w.len() != first_words(l.actions, l.delay, pending) {
         return false;
     }
     if !bits_below(1, w) {
@@ -121,9 +132,12 @@ pub fn read_shape(sheet: &[u8]) -> TableReading
     if !contents_ok(sheet, b"SWT") {
         return TableReading::Refused(Refusal::TableContents);
     }
-    let l = layout_at(sheet);
     let h = body(sheet, 0);
-    if !numbers_ok(h.len(), l) {
+    if h.len() != 4 {
+        return TableReading::Refused(Refusal::TableShape);
+    }
+    let l = layout_at(sheet);
+    if !numbers_ok(l) {
         return TableReading::Refused(Refusal::TableShape);
     }
     let flags = l.flags;

@@ -3,6 +3,7 @@ use Prim.Native.Nat.{ℕ}
 use mathlib.Core.Path.{_≡_, refl}
 use mathlib.Core.Bool.{Bool, true, false}
 use native.Mathlib.Omega.{arith}
+use Rattle.theory.specs.Fold.{both}
 use Rattle.theory.specs.Answer.{Answer, refused, accepted, check, onAccepted}
 
 module _ {A : Type 0} where
@@ -25,6 +26,12 @@ module _ {A : Type 0} where
   unfolding check
   check-accepted true n rest e = (refl, e)
   check-accepted false n rest e = absurd (refused-not-accepted e)
+
+  -- two tests with one refusal
+  pub check-both : (a b : Bool) (n : ℕ) (rest : Answer A) → check (both a b) n rest ≡ check a n (check b n rest)
+  unfolding check both
+  check-both true b n rest = refl
+  check-both false b n rest = refl
 
 module _ {A B : Type 0} where
   -- an accepted chain has accepted its first part
