@@ -26,6 +26,7 @@ use Rattle.walk.specs.code.Levels.{arenaOf}
 use Rattle.walk.specs.code.Nodes.{Sized}
 use Rattle.walk.specs.code.Walks.{fallenBy, spoiltAnswer}
 use Rattle.walk.proofs.NodeLaws.{at-action}
+use Rattle.sheet.specs.Limits.{mostNodes}
 use Rattle.solver.specs.code.Work.{Work, spoilRowTo}
 use Rattle.solver.specs.code.Sweep.{Fitted}
 use Rattle.solver.specs.code.Block.{blockedAt, noWay, blockTo, blocksTo}
@@ -69,7 +70,7 @@ module _ (p : List ℕ) (g : List (List ℕ)) (u f : List ℕ) (l : Level) (youn
       let y = fits .some-younger in
       omega arith
 
-  pub row-whole : b * younger + younger ≤ 16384
+  pub row-whole : b * younger + younger ≤ mostNodes
   row-whole =
       let q : length p * l .words ≡ length p * l .actions * younger =
       ap (λ (x : ℕ). length p * x) (whole ∙ mul-comm younger (l .actions)) ∙ sym (mul-assoc (length p) (l .actions) younger) in

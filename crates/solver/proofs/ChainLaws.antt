@@ -12,6 +12,8 @@ use lib.Seq.{set-out, getD-set-same, getD-set-other}
 use borrow.Author.Needs.{needs}
 use borrow.Author.Tests.{eq-eqb, ne-eqb, lt-ltb, le-ltb}
 use Rattle.theory.proofs.Fold.{bool, same?, below?}
+use Rattle.sheet.specs.Limits.{mostMoves}
+use Rattle.solver.specs.code.Sizes.{mostCells}
 use Rattle.solver.specs.code.Chains.{lastOf, chainOf, chain, headOf, Down, Chains, Linked, cellKey, Indexed}
 use Rattle.theory.specs.Game.{absent, to}
 use Rattle.sheet.specs.code.Arrays.{indexEntries, absentMark, markOf, unmark, targetAt, toAt, lineCount}
@@ -233,17 +235,17 @@ module _ (u : List ℕ) (g : List (List ℕ)) (delay : ℕ) {reaching lines lead
   pub index-none : Linked (toAt u) 0 reaching lines → Linked (cellKey g) 0 leading cells → delay < 2 → Indexed u g delay reaching lines leading cells
   index-none a b h =
       record {
-        line-chains = linked-chains (toAt u) 0 4096 reaching lines a (omega arith);
-        cell-chains = linked-chains (cellKey g) 0 2048 leading cells b (omega arith);
+        line-chains = linked-chains (toAt u) 0 mostMoves reaching lines a (omega arith);
+        cell-chains = linked-chains (cellKey g) 0 mostCells leading cells b (omega arith);
         lines-linked = λ d. absurd (omega arith);
         cells-linked = λ d. absurd (omega arith);
       }
 
-  pub index-both : Linked (toAt u) (lineCount u) reaching lines → Linked (cellKey g) 2048 leading cells → Indexed u g delay reaching lines leading cells
+  pub index-both : Linked (toAt u) (lineCount u) reaching lines → Linked (cellKey g) mostCells leading cells → Indexed u g delay reaching lines leading cells
   index-both a b =
       record {
-        line-chains = linked-chains (toAt u) (lineCount u) 4096 reaching lines a (omega arith);
-        cell-chains = linked-chains (cellKey g) 2048 2048 leading cells b (omega arith);
+        line-chains = linked-chains (toAt u) (lineCount u) mostMoves reaching lines a (omega arith);
+        cell-chains = linked-chains (cellKey g) mostCells mostCells leading cells b (omega arith);
         lines-linked = λ d. a;
         cells-linked = λ d. b;
       }

@@ -18,6 +18,7 @@ use Rattle.theory.proofs.Fold.{bool, not-both, below-cases, both-none, both-sec
 use Rattle.sheet.specs.Kinds.{controllerAt, safeAt}
 use Rattle.walk.specs.declared.level.Level.{Level}
 use Rattle.walk.specs.code.Nodes.{Sized}
+use Rattle.sheet.specs.Limits.{mostNodes}
 use Rattle.solver.specs.code.Work.{Work, work}
 use Rattle.solver.specs.code.First.{rowFalls, rowMask, standBelow, Placed}
 
@@ -60,7 +61,7 @@ module _ (positions : ℕ) (l : Level) (sized : Sized positions l) (q i : ℕ) (
   pub row-node : i < l .words → q * l .words + i < l .nodes
   row-node a = rw (sized .all-nodes) (digits-lt h a)
 
-  pub row-le : i ≤ l .words → q * l .words + i ≤ 16384
+  pub row-le : i ≤ l .words → q * l .words + i ≤ mostNodes
   row-le a =
       let n = sized .few-nodes in
       let e = sized .all-nodes in

@@ -14,6 +14,7 @@ use Rattle.theory.proofs.Fold.{bool, both-left, both-right}
 use Rattle.theory.proofs.Turns.{absent-not-to, target-cases, to-injective}
 use Rattle.sheet.specs.Limits.{mostPositions, mostActions}
 use Rattle.sheet.specs.code.Arrays.{viewOf, targetAt, unmark, markOf, absentMark, toAt, lineCount}
+use Rattle.solver.specs.code.Sizes.{mostCells}
 use Rattle.solver.specs.code.Chains.{Linked, cellKey}
 use Rattle.solver.specs.code.Sweep.{index, Reverses}
 use Rattle.solver.specs.code.Working.{Lines}
@@ -36,7 +37,7 @@ target-inside g q h t e =
 
 module _ (p : List ℕ) (g : List (List ℕ)) (u f : List ℕ) (start actions : ℕ) (reaching lines leading cells : List ℕ)
     (few : length p ≤ mostPositions) (legal : Legal (viewOf p g u f start actions)) (all : Lines (viewOf p g u f start actions) u)
-    (rows : Linked (toAt u) (lineCount u) reaching lines) (columns : Linked (cellKey g) 2048 leading cells) where
+    (rows : Linked (toAt u) (lineCount u) reaching lines) (columns : Linked (cellKey g) mostCells leading cells) where
   abbrev G : Game
   G = viewOf p g u f start actions
 
@@ -73,7 +74,7 @@ module _ (p : List ℕ) (g : List (List ℕ)) (u f : List ℕ) (start actions : 
             (z .0, chain-visits (toAt u) (lineCount u) reaching lines rows r (z .0) (omega arith) (z .1) (z .3), z .2);
         target = λ t c m h.
             let s = positions-is in
-            let z = chain-places (cellKey g) 2048 leading cells columns t c (omega arith) m in
+            let z = chain-places (cellKey g) mostCells leading cells columns t c (omega arith) m in
             target-is (c / 8) (c % 8) ∙ mark-target _ t (z .1) (omega arith);
         cell = λ q h t e.
             let s = positions-is in
@@ -82,7 +83,7 @@ module _ (p : List ℕ) (g : List (List ℕ)) (u f : List ℕ) (start actions : 
             let b = i .1 in
             let l = legal .targets q h t e .position in (
               q * 8 + h,
-              chain-visits (cellKey g) 2048 leading cells columns t (q * 8 + h) (omega arith) (omega arith) (cell-of q h t e),
+              chain-visits (cellKey g) mostCells leading cells columns t (q * 8 + h) (omega arith) (omega arith) (cell-of q h t e),
               (let d : (q * 8 + h) / 8 ≡ q = omega arith in d),
               (let d : (q * 8 + h) % 8 ≡ h = omega arith in d),
             );

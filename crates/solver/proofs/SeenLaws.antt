@@ -16,6 +16,7 @@ use Rattle.theory.specs.Table.{bit}
 use Rattle.theory.proofs.Fold.{bool, not-both, below?, same?}
 use Rattle.theory.proofs.Masks.{zero-bit}
 use Rattle.walk.specs.declared.level.Level.{Level}
+use Rattle.sheet.specs.Limits.{mostNodes}
 use Rattle.solver.specs.declared.spread.Spot.{Spot}
 use Rattle.solver.specs.code.Work.{Work, work, fallTo, leaveTo, markTo, marksTo}
 use Rattle.solver.specs.code.Chains.{chain, headOf}
@@ -253,7 +254,7 @@ module _ (l : Level) (younger : ℕ) (fits : Fitted l younger) (n j : ℕ) (head
   seen-level known = rw e at known
 
 -- the first notes
-pub clear-part : (n : ℕ) (seen : List ℕ) → length seen ≡ 16384 → ((i : ℕ) → i < 16384 → getD seen i 0 ≡ 0) → n ≤ 16384 → Clear (take n seen)
+pub clear-part : (n : ℕ) (seen : List ℕ) → length seen ≡ mostNodes → ((i : ℕ) → i < mostNodes → getD seen i 0 ≡ 0) → n ≤ mostNodes → Clear (take n seen)
 clear-part n seen size zeros h =
     record {
       none =

@@ -9,7 +9,9 @@ use mir.Val.{Fits}
 use mir.Syntax.{w64}
 use lib.ListN.{length, getD}
 use borrow.Author.Needs.{needs}
+use Rattle.sheet.specs.Limits.{mostNodes}
 use Rattle.solver.specs.declared.spread.Spot.{Spot}
+use Rattle.solver.specs.code.Sizes.{mostCells, wordBound}
 use Rattle.solver.specs.code.Work.{Work, work, Lent, markTo, marksTo}
 use Rattle.solver.specs.code.Chains.{chain, headOf, Down}
 use Rattle.solver.specs.code.Spread.{Spotted, callerAt, wordAt, callers, sourceAt, sources, gather, evenNodes, oddNodes}
@@ -21,12 +23,12 @@ chain-step links zero d z = absurd (z refl)
 chain-step links (suc i) d z = let q : suc i - 1 ≡ i = omega arith in rw q (chain-next links (d .link) i)
 
 -- products of small numbers
-pub small-product : (a b : ℕ) → a < 256 → b ≤ 16384 → a * b ≤ 4194304
-small-product a b h l = let r : a * b ≤ 256 * 16384 = mul-le-mul (let z : a ≤ 256 = omega arith in z) l in omega arith
+pub small-product : (a b : ℕ) → a < 256 → b ≤ mostNodes → a * b ≤ 4194304
+small-product a b h l = let r : a * b ≤ 256 * mostNodes = mul-le-mul (let z : a ≤ 256 = omega arith in z) l in omega arith
 
 -- the numbers of a node fit a word
 module _ (s : Spot) (small : Spotted s) where
-  module _ (x : ℕ) (h : x < 2048) where
+  module _ (x : ℕ) (h : x < mostCells) where
     pub position-fits : Fits w64 (x / 8 * s .words)
     position-fits = let r = small-product (x / 8) (s .words) (omega arith) (small .few-words) in record { fits = omega arith }
 
@@ -65,16 +67,16 @@ module _ (s : Spot) (small : Spotted s) where
     unfolding wordAt
     word-is = refl
 
-    pub word-small : x % 8 * s .younger + s .rest < 1048576
+    pub word-small : x % 8 * s .younger + s .rest < wordBound
     word-small =
-        let r : (x % 8) * s .younger ≤ 7 * 16384 = mul-le-mul (let z : x % 8 ≤ 7 = omega arith in z) (small .few-younger) in
+        let r : (x % 8) * s .younger ≤ 7 * mostNodes = mul-le-mul (let z : x % 8 ≤ 7 = omega arith in z) (small .few-younger) in
         let t = small .few-rest in
         omega arith
 
   pub from-fits : {a b : ℕ} → a ≡ b → b < 256 → Fits w64 (a * s .words)
   from-fits {a} e h = let r = small-product a (s .words) (omega arith) (small .few-words) in record { fits = omega arith }
 
-  pub source-fits : {a b word : ℕ} → a ≡ b → b < 256 → word < 1048576 → Fits w64 (a * s .words + word)
+  pub source-fits : {a b word : ℕ} → a ≡ b → b < 256 → word < wordBound → Fits w64 (a * s .words + word)
   source-fits {a} e h l = let r = small-product a (s .words) (omega arith) (small .few-words) in record { fits = omega arith }
 
   pub source-is : (u : List ℕ) (word i : ℕ) {a b : ℕ} → a ≡ b → b ≡ getD u (2 * i) 0 → a * s .words + word ≡ sourceAt u s word i

@@ -18,6 +18,8 @@ use Rattle.sheet.specs.code.Arrays.{viewOf}
 use Rattle.walk.specs.declared.level.Level.{Level}
 use Rattle.walk.specs.code.Levels.{arenaOf}
 use Rattle.walk.specs.code.Nodes.{Sized}
+use Rattle.sheet.specs.Limits.{mostNodes}
+use Rattle.solver.specs.code.Sizes.{mostRounds}
 use Rattle.solver.specs.code.Work.{Work, work, Lent}
 use Rattle.solver.specs.code.Sweep.{Index, index, Fitted, sweepTo}
 use Rattle.solver.specs.code.First.{Placed}
@@ -130,7 +132,7 @@ module _ (p : List ℕ) (g : List (List ℕ)) (u f reaching lines leading cells 
     pub round-queue : hi ≤ length (w .queue)
     round-queue = let a = round-inside in let b = r .ready .good .queue-size in let e = nodes-is in omega arith
 
-    pub round-few : n < 65535
+    pub round-few : n < mostRounds
     round-few = let a = round-inside in let b = r .few in let c = can .sized .few-nodes in omega arith
 
     module _ {v : Work} (e : v ≡ sweepTo (index u reaching lines leading cells) l younger n w lo (hi - lo)) where
@@ -175,5 +177,5 @@ module _ (p : List ℕ) (g : List (List ℕ)) (u f reaching lines leading cells 
       round-over z = let d = done-here z in record { ranks = d .ranks; masks = d .masks; most = d .most }
 
 -- the queue's part for the nodes
-pub queue-part : (n : ℕ) (queue : List ℕ) → length queue ≡ 16384 → n ≤ 16384 → n ≡ length (take n queue)
+pub queue-part : (n : ℕ) (queue : List ℕ) → length queue ≡ mostNodes → n ≤ mostNodes → n ≡ length (take n queue)
 queue-part n queue e h = sym (length-take-le n queue (omega arith))

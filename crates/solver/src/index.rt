@@ -12,11 +12,13 @@ ghost use mathlib.Core.Path.{_≡_};
 ghost use Prim.Native.Nat.{_+_, _<_, _≤_};
 ghost use lib.ListN.{length, getD, set};
 ghost use Rattle.sheet.specs.code.Arrays.{toAt, lineCount};
+ghost use Rattle.sheet.specs.Limits.{mostMoves};
+ghost use Rattle.solver.specs.code.Sizes.{mostCells, mostRounds};
 ghost use Rattle.solver.specs.code.Chains.{Linked, cellKey, Indexed};
 
 // Place i, with key x, in front of its chain. A key that there cannot be has none.
 fn link(heads: &mut [u16], links: &mut [u16], i: usize, x: usize)
-    requires { ⌜ (i < length (now links)) × (i < 65535) ⌝ }
+    requires { ⌜ (i < length (now links)) × (i < mostRounds) ⌝ }
     ensures { λ r.
         ⌜ (now (heads .exit) ≡ set (now (heads .entry)) x (i + 1))
         × (now (links .exit) ≡ set (now (links .entry)) i (getD (now (heads .entry)) x 0)) ⌝ }
@@ -41,7 +43,7 @@ fn line_count(u: &[u8]) -> usize
 }
 
 pub(crate) fn link_lines(u: &[u8], heads: &mut [u16], links: &mut [u16])
-    requires { ⌜ Linked (toAt (now u)) 0 (now heads) (now links) × (4096 ≤ length (now links)) ⌝ }
+    requires { ⌜ Linked (toAt (now u)) 0 (now heads) (now links) × (mostMoves ≤ length (now links)) ⌝ }
     ensures { λ r. ⌜ Linked (toAt (now (u .entry))) (lineCount (now (u .entry))) (now (heads .exit)) (now (links .exit)) ⌝ }
 {
     let n = line_count(u);
@@ -54,8 +56,8 @@ pub(crate) fn link_lines(u: &[u8], heads: &mut [u16], links: &mut [u16])
 }
 
 pub(crate) fn link_cells(grid: &[[u16; ROW]; ROWS], heads: &mut [u16], links: &mut [u16])
-    requires { ⌜ Linked (cellKey (now grid)) 0 (now heads) (now links) × (2048 ≤ length (now links)) ⌝ }
-    ensures { λ r. ⌜ Linked (cellKey (now (grid .entry))) 2048 (now (heads .exit)) (now (links .exit)) ⌝ }
+    requires { ⌜ Linked (cellKey (now grid)) 0 (now heads) (now links) × (mostCells ≤ length (now links)) ⌝ }
+    ensures { λ r. ⌜ Linked (cellKey (now (grid .entry))) mostCells (now (heads .exit)) (now (links .exit)) ⌝ }
 {
     let mut i: usize = 0;
     while i < CELLS {
@@ -75,8 +77,8 @@ pub(crate) fn index(
     leading: &mut [u16],
     cells: &mut [u16],
 )
-    requires { ⌜ Linked (toAt (now u)) 0 (now reaching) (now lines) × (4096 ≤ length (now lines))
-        × Linked (cellKey (now grid)) 0 (now leading) (now cells) × (2048 ≤ length (now cells)) ⌝ }
+    requires { ⌜ Linked (toAt (now u)) 0 (now reaching) (now lines) × (mostMoves ≤ length (now lines))
+        × Linked (cellKey (now grid)) 0 (now leading) (now cells) × (mostCells ≤ length (now cells)) ⌝ }
     ensures { λ r.
         ⌜ Indexed (now (u .entry)) (now (grid .entry)) delay (now (reaching .exit)) (now (lines .exit))
         (now (leading .exit)) (now (cells .exit)) ⌝ }

@@ -7,15 +7,18 @@ use sheet::form::wide16;
 use sheet::limits::INDEX;
 use sheet::limits::MOST_MOVES;
 use sheet::limits::ROW;
+use sheet::limits::ROWS;
 ghost use mathlib.Core.Path.{_≡_};
 ghost use Prim.Native.Nat.{_≤_, _<_};
+ghost use Rattle.sheet.specs.Limits.{mostMoves, mostPositions};
+ghost use Rattle.solver.specs.code.Sizes.{mostCells, wordBound};
 ghost use Rattle.solver.specs.code.Work.{work, Lent, marksTo};
 ghost use Rattle.solver.specs.code.Chains.{headOf, Chains, Down};
 ghost use Rattle.solver.specs.code.Spread.{Spotted, callerAt, wordAt, callers, sourceAt, sources, evenNodes, oddNodes};
 ghost use Rattle.solver.specs.code.Seen.{Seen};
 
 // The cells of the grid.
-pub const CELLS: usize = 2048;
+pub const CELLS: usize = ROWS * ROW;
 
 // What falls with a node in round n: an action, chosen where a word's younger actions are rest; the node's word is both. The word
 // of a node before is its oldest action times younger, plus rest.
@@ -31,7 +34,7 @@ pub struct Spot {
 
 // The node of a cell's position, whose oldest action is the cell's.
 fn caller_at(spot: Spot, x: usize) -> usize
-    requires { ⌜ (Spotted spot) × (x < 2048) ⌝ }
+    requires { ⌜ (Spotted spot) × (x < mostCells) ⌝ }
     ensures { λ r. ⌜ r ≡ callerAt spot x ⌝ }
 {
     x / ROW * spot.words + x % ROW * spot.younger + spot.rest
@@ -39,7 +42,7 @@ fn caller_at(spot: Spot, x: usize) -> usize
 
 // The node of a line's position before the move.
 fn source_at(u: &[u8], spot: Spot, word: usize, i: usize) -> usize
-    requires { ⌜ (Spotted spot) × (word < 1048576) × (i < 4096) ⌝ }
+    requires { ⌜ (Spotted spot) × (word < wordBound) × (i < mostMoves) ⌝ }
     ensures { λ r. ⌜ r ≡ sourceAt (now (u .entry)) spot word i ⌝ }
 {
     wide(byte(u, 2 * i)) * spot.words + word
@@ -48,7 +51,7 @@ fn source_at(u: &[u8], spot: Spot, word: usize, i: usize) -> usize
 // The word with a cell's action as its oldest.
 fn word_at(spot: Spot, x: usize) -> usize
     requires { ⌜ Spotted spot ⌝ }
-    ensures { λ r. ⌜ (r ≡ wordAt spot x) × (r < 1048576) ⌝ }
+    ensures { λ r. ⌜ (r ≡ wordAt spot x) × (r < wordBound) ⌝ }
 {
     x % ROW * spot.younger + spot.rest
 }
@@ -73,7 +76,7 @@ fn mark_callers(
     first: usize,
     tail: usize,
 ) -> usize
-    requires { ⌜ (Lent (now ranks) (now masks) (now queue)) × (Spotted spot) × (Down (now cells)) × (first ≤ 2048) ⌝ }
+    requires { ⌜ (Lent (now ranks) (now masks) (now queue)) × (Spotted spot) × (Down (now cells)) × (first ≤ mostCells) ⌝ }
     ensures { λ r.
         ⌜ work (now (ranks .exit)) (now (masks .exit)) (now (queue .exit)) r
         ≡ marksTo (spot .n) (spot .action) (work (now (ranks .entry)) (now (masks .entry)) (now (queue .entry)) tail)
@@ -102,8 +105,8 @@ fn mark_sources(
     first: usize,
     tail: usize,
 ) -> usize
-    requires { ⌜ (Lent (now ranks) (now masks) (now queue)) × (Spotted spot) × (word < 1048576) × (Down (now lines))
-        × (first ≤ 4096) ⌝ }
+    requires { ⌜ (Lent (now ranks) (now masks) (now queue)) × (Spotted spot) × (word < wordBound) × (Down (now lines))
+        × (first ≤ mostMoves) ⌝ }
     ensures { λ r.
         ⌜ work (now (ranks .exit)) (now (masks .exit)) (now (queue .exit)) r
         ≡ marksTo (spot .n) (spot .action) (work (now (ranks .entry)) (now (masks .entry)) (now (queue .entry)) tail)
@@ -133,7 +136,7 @@ fn mark_target(
     t: usize,
     tail: usize,
 ) -> usize
-    requires { ⌜ (Lent (now ranks) (now masks) (now queue)) × (Spotted spot) × (Chains 2048 (now heads) (now cells)) × (t < 256)
+    requires { ⌜ (Lent (now ranks) (now masks) (now queue)) × (Spotted spot) × (Chains mostCells (now heads) (now cells)) × (t < mostPositions)
         × (Seen (now heads) (now cells) (spot .words) (spot .younger) (spot .actions) (now seen) (now masks)) ⌝ }
     ensures { λ r.
         ⌜ (work (now (ranks .exit)) (now (masks .exit)) (now (queue .exit)) r
@@ -171,8 +174,8 @@ pub(crate) fn spread_even(
     first: usize,
     tail: usize,
 ) -> usize
-    requires { ⌜ (Lent (now ranks) (now masks) (now queue)) × (Spotted spot) × (Chains 2048 (now heads) (now cells))
-        × (Down (now lines)) × (first ≤ 4096)
+    requires { ⌜ (Lent (now ranks) (now masks) (now queue)) × (Spotted spot) × (Chains mostCells (now heads) (now cells))
+        × (Down (now lines)) × (first ≤ mostMoves)
         × (Seen (now heads) (now cells) (spot .words) (spot .younger) (spot .actions) (now seen) (now masks)) ⌝ }
     ensures { λ r.
         ⌜ (work (now (ranks .exit)) (now (masks .exit)) (now (queue .exit)) r
@@ -205,8 +208,8 @@ pub(crate) fn spread_odd(
     first: usize,
     tail: usize,
 ) -> usize
-    requires { ⌜ (Lent (now ranks) (now masks) (now queue)) × (Spotted spot) × (Chains 4096 (now heads) (now lines))
-        × (Down (now cells)) × (first ≤ 2048) ⌝ }
+    requires { ⌜ (Lent (now ranks) (now masks) (now queue)) × (Spotted spot) × (Chains mostMoves (now heads) (now lines))
+        × (Down (now cells)) × (first ≤ mostCells) ⌝ }
     ensures { λ r.
         ⌜ work (now (ranks .exit)) (now (masks .exit)) (now (queue .exit)) r
         ≡ marksTo (spot .n) (spot .action) (work (now (ranks .entry)) (now (masks .entry)) (now (queue .entry)) tail)

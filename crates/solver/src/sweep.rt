@@ -11,6 +11,8 @@ use walk::level::Level;
 ghost use mathlib.Core.Path.{_≡_};
 ghost use Prim.Native.Nat.{_-_, _≤_, _<_};
 ghost use lib.ListN.{length};
+ghost use Rattle.sheet.specs.Limits.{mostMoves};
+ghost use Rattle.solver.specs.code.Sizes.{mostCells, mostRounds};
 ghost use Rattle.solver.specs.code.Work.{work, Lent};
 ghost use Rattle.solver.specs.code.Chains.{Chains};
 ghost use Rattle.solver.specs.code.Spread.{Spotted};
@@ -19,7 +21,7 @@ ghost use Rattle.solver.specs.code.Sweep.{index, Fitted, spotAt, spreadT
 
 // The action and the younger actions of node j's word.
 fn spot_at(level: Level, younger: usize, n: u16, j: usize) -> Spot
-    requires { ⌜ (Fitted level younger) × (n < 65535) ⌝ }
+    requires { ⌜ (Fitted level younger) × (n < mostRounds) ⌝ }
     ensures { λ r. ⌜ (r ≡ spotAt level younger n j) × (Spotted r) ⌝ }
 {
     let v = j % level.words;
@@ -51,8 +53,8 @@ fn spread(
     j: usize,
     tail: usize,
 ) -> usize
-    requires { ⌜ (Lent (now ranks) (now masks) (now queue)) × (Fitted level younger) × (n < 65535)
-        × (Chains 4096 (now reaching) (now lines)) × (Chains 2048 (now leading) (now cells))
+    requires { ⌜ (Lent (now ranks) (now masks) (now queue)) × (Fitted level younger) × (n < mostRounds)
+        × (Chains mostMoves (now reaching) (now lines)) × (Chains mostCells (now leading) (now cells))
         × (Seen (now leading) (now cells) (level .words) younger (level .actions) (now seen) (now masks)) ⌝ }
     ensures { λ r.
         ⌜ (work (now (ranks .exit)) (now (masks .exit)) (now (queue .exit)) r
@@ -111,8 +113,8 @@ pub(crate) fn sweep(
     hi: usize,
     tail: usize,
 ) -> usize
-    requires { ⌜ (Lent (now ranks) (now masks) (now queue)) × (Fitted level younger) × (n < 65535)
-        × (Chains 4096 (now reaching) (now lines)) × (Chains 2048 (now leading) (now cells)) × (hi ≤ length (now queue))
+    requires { ⌜ (Lent (now ranks) (now masks) (now queue)) × (Fitted level younger) × (n < mostRounds)
+        × (Chains mostMoves (now reaching) (now lines)) × (Chains mostCells (now leading) (now cells)) × (hi ≤ length (now queue))
         × (Seen (now leading) (now cells) (level .words) younger (level .actions) (now seen) (now masks)) ⌝ }
     ensures { λ r.
         ⌜ (work (now (ranks .exit)) (now (masks .exit)) (now (queue .exit)) r

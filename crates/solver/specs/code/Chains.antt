@@ -8,6 +8,7 @@ use lib.Dec.{eqb, ltb}
 use lib.ListN.{length, getD}
 use Rattle.sheet.specs.Limits.{mostActions, mostMoves}
 use Rattle.sheet.specs.code.Arrays.{indexEntries, markOf, targetAt, toAt, lineCount}
+use Rattle.solver.specs.code.Sizes.{mostCells}
 
 -- the link to the last place below n with key x
 unfoldable pub lastOf : (ℕ → ℕ) → ℕ → ℕ → ℕ
@@ -51,6 +52,6 @@ cellKey g x = markOf (targetAt g (x / mostActions) (x % mostActions))
 -- the chains of the lines and the cells, where the delay asks for them; they end in any case
 pub record Indexed (u : List ℕ) (g : List (List ℕ)) (delay : ℕ) (reaching lines leading cells : List ℕ) : Type 0 where
   pub line-chains : Chains mostMoves reaching lines
-  pub cell-chains : Chains 2048 leading cells
+  pub cell-chains : Chains mostCells leading cells
   pub lines-linked : 2 ≤ delay → Linked (toAt u) (lineCount u) reaching lines
-  pub cells-linked : 2 ≤ delay → Linked (cellKey g) 2048 leading cells
+  pub cells-linked : 2 ≤ delay → Linked (cellKey g) mostCells leading cells

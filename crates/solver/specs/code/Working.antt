@@ -9,6 +9,7 @@ use Rattle.sheet.specs.Limits.{mostMoves}
 use Rattle.sheet.specs.code.Arrays.{viewOf, toAt, lineCount}
 use Rattle.walk.specs.declared.level.Level.{Level}
 use Rattle.walk.specs.code.Nodes.{Sized}
+use Rattle.solver.specs.code.Sizes.{mostCells}
 use Rattle.solver.specs.code.Chains.{Chains}
 use Rattle.solver.specs.code.Sweep.{index, Fitted, Reverses}
 
@@ -19,7 +20,7 @@ pub record Workable (p : List ℕ) (g : List (List ℕ)) (u f reaching lines lea
   pub legal : Legal (viewOf p g u f (l .start) (l .actions))
   pub reverses : Reverses (viewOf p g u f (l .start) (l .actions)) (index u reaching lines leading cells)
   pub line-chains : Chains mostMoves reaching lines
-  pub cell-chains : Chains 2048 leading cells
+  pub cell-chains : Chains mostCells leading cells
 
 -- the final ranks, all at most n, and the masks
 pub record Worked (E : Arena) (after left : List ℕ) (n : ℕ) : Type 0 where

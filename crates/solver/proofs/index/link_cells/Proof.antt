@@ -4,6 +4,7 @@ use mathlib.Core.Path.{_≡_}
 use native.Mathlib.Omega.{arith}
 use lib.ListN.{length}
 use borrow.Author.Needs.{needs}
+use Rattle.solver.specs.code.Sizes.{mostCells}
 use Rattle.solver.specs.code.Chains.{Linked, cellKey}
 use Rattle.solver.proofs.ChainLaws.{linked-again, linked-done, cell-mark}
 use Rattle.solver.proofs.index.link_cells.Statement.{statement}
@@ -11,10 +12,10 @@ use Rattle.solver.proofs.index.link_cells.Tie as tie
 
 abbrev Inv-loop : tie.InvT-loop
 Inv-loop grid heads₀ links₀ i₀ heads links i =
-    (i ≤ 2048) × (length heads ≡ length heads₀) × (length links ≡ length links₀) × Linked (cellKey grid) i heads links
+    (i ≤ mostCells) × (length heads ≡ length heads₀) × (length links ≡ length links₀) × Linked (cellKey grid) i heads links
 
 abbrev μ-loop : tie.MeasureT-loop
-μ-loop grid heads₀ links₀ i₀ heads links i = 2048 - i
+μ-loop grid heads₀ links₀ i₀ heads links i = mostCells - i
 
 loop-again : tie.Need-loop-again Inv-loop μ-loop
 loop-again c = (

@@ -4,16 +4,18 @@ use mathlib.Core.Path.{refl}
 use native.Mathlib.Omega.{arith}
 use lib.ListN.{replicate, length-replicate}
 use borrow.Author.Needs.{needs}
+use Rattle.sheet.specs.Limits.{mostMoves}
 use Rattle.solver.proofs.SolveLaws.{bodies-can, bodies-filled, none-linked, long-enough}
 use Rattle.solver.proofs.solve.fill.Statement.{statement}
 use Rattle.solver.proofs.solve.fill.Tie as tie
+use Rattle.solver.specs.code.Sizes.{mostCells}
 
 index-requires : tie.Need-index-requires
 index-requires c κs = (
-  none-linked _ _ _ 257 4096 refl refl refl,
-  long-enough (replicate 4096 0) 4096 (length-replicate {A = ℕ} 4096 0),
-  none-linked _ _ _ 257 2048 refl refl refl,
-  long-enough (replicate 2048 0) 2048 (length-replicate {A = ℕ} 2048 0),
+  none-linked _ _ _ 257 mostMoves refl refl refl,
+  long-enough (replicate mostMoves 0) mostMoves (length-replicate {A = ℕ} mostMoves 0),
+  none-linked _ _ _ 257 mostCells refl refl refl,
+  long-enough (replicate mostCells 0) mostCells (length-replicate {A = ℕ} mostCells 0),
 )
 
 fill-by-requires : tie.Need-fill-by-requires

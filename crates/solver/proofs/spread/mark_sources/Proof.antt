@@ -4,6 +4,7 @@ use mathlib.Core.Path.{_≡_, sym, _∙_}
 use native.Mathlib.Omega.{arith}
 use lib.ListN.{length}
 use borrow.Author.Needs.{needs}
+use Rattle.sheet.specs.Limits.{mostMoves}
 use Rattle.solver.specs.code.Work.{work, marksTo}
 use Rattle.solver.specs.code.Spread.{sources}
 use Rattle.solver.proofs.SpreadLaws.{link-less, sources-next, sources-end}
@@ -12,7 +13,7 @@ use Rattle.solver.proofs.spread.mark_sources.Tie as tie
 
 abbrev Inv-loop : tie.InvT-loop
 Inv-loop u lines ranks₀ masks₀ queue₀ spot word first tail e₀ end₀ ranks masks queue e end =
-    (e ≤ 4096)
+    (e ≤ mostMoves)
     × (length ranks ≡ length ranks₀)
     × (length masks ≡ length masks₀)
     × (length queue ≡ length queue₀)

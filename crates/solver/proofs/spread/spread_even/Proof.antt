@@ -4,6 +4,7 @@ use mathlib.Core.Path.{_≡_, sym, _∙_, ap}
 use native.Mathlib.Omega.{arith}
 use lib.ListN.{length}
 use borrow.Author.Needs.{needs}
+use Rattle.sheet.specs.Limits.{mostMoves}
 use Rattle.solver.specs.code.Work.{work, marksTo}
 use Rattle.solver.specs.code.Spread.{evenNodes}
 use Rattle.solver.specs.code.Seen.{Seen}
@@ -13,7 +14,7 @@ use Rattle.solver.proofs.spread.spread_even.Tie as tie
 
 abbrev Inv-loop : tie.InvT-loop
 Inv-loop u lines heads cells seen₀ ranks₀ masks₀ queue₀ spot first tail e₀ end₀ seen ranks masks queue e end =
-    (e ≤ 4096)
+    (e ≤ mostMoves)
     × (length seen ≡ length seen₀)
     × (length ranks ≡ length ranks₀)
     × (length masks ≡ length masks₀)

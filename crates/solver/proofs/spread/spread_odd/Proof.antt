@@ -4,6 +4,7 @@ use mathlib.Core.Path.{_≡_, sym, _∙_, ap}
 use native.Mathlib.Omega.{arith}
 use lib.ListN.{length}
 use borrow.Author.Needs.{needs}
+use Rattle.solver.specs.code.Sizes.{mostCells}
 use Rattle.solver.specs.code.Work.{work, marksTo}
 use Rattle.solver.specs.code.Spread.{oddNodes}
 use Rattle.solver.proofs.SpreadLaws.{link-less, odd-again, odd-end}
@@ -12,7 +13,7 @@ use Rattle.solver.proofs.spread.spread_odd.Tie as tie
 
 abbrev Inv-loop : tie.InvT-loop
 Inv-loop u lines heads cells ranks₀ masks₀ queue₀ spot first tail e₀ end₀ ranks masks queue e end =
-    (e ≤ 2048)
+    (e ≤ mostCells)
     × (length ranks ≡ length ranks₀)
     × (length masks ≡ length masks₀)
     × (length queue ≡ length queue₀)
