@@ -4,7 +4,7 @@ use loquatquoits_tests::naive::{self, Game, Rule, Verdict};
 use loquatquoits_tests::proved;
 use loquatquoits_tests::random::Random;
 use loquatquoits_tests::sheets::{self, random_yard, Shape, Yard};
-use loquatquoits_tests::worst::{fan, worst, Worst};
+use loquatquoits_tests::worst::{fan, standing, worst, Worst};
 use std::hint::black_box;
 use std::time::{Duration, Instant};
 
@@ -171,7 +171,7 @@ fn yards() {
     println!();
 }
 
-/// Yards on which one pair falls a round while the others stand, and ones on which all fall at once.
+/// Yards on which one pair falls a round while the others stand, ones on which all fall at once, and ones that are dear at lags 0 and 1.
 fn worst_yards() {
     println!("| worst yard | pairs | rounds | proved | by hand, once | proved / by hand | bits | proved / bits |");
     println!("|---|---|---|---|---|---|---|---|");
@@ -189,6 +189,10 @@ fn worst_yards() {
     }
     for (own, hubs, actions, delay) in [(252, 1, 8, 4), (240, 8, 8, 4), (240, 8, 8, 5), (252, 1, 8, 2), (252, 1, 4, 6)] {
         row(&format!("fan, {actions} actions, lag {delay}, {own} own positions, {hubs} of the yard's"), &fan(own, hubs, actions, delay), 5);
+        println!();
+    }
+    for delay in [0, 1, 5] {
+        row(&format!("standing, 8 actions, lag {delay}, 140 own positions, 53 links"), &standing(140, 53, 8, delay), 5);
         println!();
     }
     println!();

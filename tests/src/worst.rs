@@ -1,5 +1,5 @@
 //! Yards that are dear to solve: chains that lose one pair a round, beside ballast that never falls and whose moves are long to look
-//! through; and fans, in which all pairs fall at once and each is an outcome of many.
+//! through; fans, in which all pairs fall at once and each is an outcome of many; and standing yards, dear where each position has one pair.
 use crate::random::Random;
 use crate::sheets::Yard;
 
@@ -291,4 +291,30 @@ pub fn fan(own: usize, hubs: usize, actions: u8, delay: u8) -> Yard {
         }
     }
     plan.yard(safe, delay)
+}
+
+/// Own positions that stand by their last command, the others being spoilt by the last of many moves, beside a chain that loses one position
+/// a round: at lags 0 and 1 every round looks through all of it again.
+pub fn standing(own: usize, links: usize, actions: u8, delay: u8) -> Yard {
+    let mut plan = Plan::new(actions);
+    let hubs: Vec<u8> = (0..actions).map(|_| plan.other()).collect();
+    let ballast: Vec<u8> = (0..own).map(|_| plan.own()).collect();
+    for &q in &ballast {
+        for (command, &hub) in hubs.iter().enumerate() {
+            plan.target(q, command, hub);
+            plan.moves(hub, q);
+        }
+    }
+    let chain: Vec<(u8, u8)> = (0..links).map(|_| (plan.own(), plan.other())).collect();
+    let mut lost = plan.add(1);
+    plan.any(lost, hubs[0]);
+    for &hub in &hubs[1..] {
+        plan.moves(hub - 1, lost);
+    }
+    for (q, z) in chain {
+        plan.target(q, 0, z);
+        plan.moves(z, lost);
+        lost = q;
+    }
+    plan.yard(ballast[0], delay)
 }

@@ -5,7 +5,7 @@ use loquatquoits_tests::naive::{self, Game, Rule, Verdict};
 use loquatquoits_tests::proved;
 use loquatquoits_tests::random::Random;
 use loquatquoits_tests::sheets::{self, random_yard, Shape, Yard};
-use loquatquoits_tests::worst::{fan, worst, Worst};
+use loquatquoits_tests::worst::{fan, standing, worst, Worst};
 
 fn rule() -> Rule {
     match std::env::var("NAIVE_RULE").as_deref() {
@@ -314,6 +314,9 @@ fn worst_yards() {
     assert!(rounds > 20);
     for (hubs, delay) in [(1, 4), (2, 5), (3, 6)] {
         compare(&fan(5, hubs, 2, delay).sheet(), &mut counts);
+    }
+    for delay in 0..=6 {
+        compare(&standing(5, 6, 2, delay).sheet(), &mut counts);
     }
     report("worst yards", &counts, &["winning at 4".into(), "winning at 5".into(), "winning at 6".into()]);
 }
