@@ -308,8 +308,8 @@ pub fn standing(own: usize, links: usize, actions: u8, delay: u8) -> Yard {
     let chain: Vec<(u8, u8)> = (0..links).map(|_| (plan.own(), plan.other())).collect();
     let mut lost = plan.add(1);
     plan.any(lost, hubs[0]);
-    for &hub in &hubs[1..] {
-        plan.moves(hub - 1, lost);
+    for &hub in &hubs[..hubs.len() - 1] {
+        plan.moves(hub, lost);
     }
     for (q, z) in chain {
         plan.target(q, 0, z);

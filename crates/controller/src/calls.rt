@@ -154,8 +154,7 @@ pub fn opening(sheet: &[u8]) -> Step
     }
 }
 
-// "Hearing a report": a position at an index. The state's bytes are decoded after the sheet is read, so that nothing of it has to be kept
-// meanwhile.
+// "Hearing a report": a position at an index. The state is decoded after the sheet is read: before it, it would be kept on the stack meanwhile.
 pub fn observe(sheet: &[u8], state: &[u8; STATE_BYTES], index: usize, position: u8) -> Step
     ensures { λ r. ⌜ stepMeans r ≡ reply (now (sheet .entry)) (decodeState (now (state .entry))) (observe index position) ⌝ }
 {

@@ -60,25 +60,20 @@ module _ (p : List ℕ) (g : List (List ℕ)) (u f : List ℕ) (l : Level) (youn
       ap (λ (x : ℕ). x / l .words) (let z : b * younger ≡ b * younger + 0 = omega arith in z)
       ∙ row-position G (l .odd) (l .words) younger (fits .some-action) (fits .some-younger) whole b 0 (fits .some-younger)
 
-  pub row-inside : b * younger < l .nodes
-  row-inside =
+  row-end : b * younger + younger ≤ l .nodes
+  row-end =
       let q : length p * l .words ≡ length p * l .actions * younger =
       ap (λ (x : ℕ). length p * x) (whole ∙ mul-comm younger (l .actions)) ∙ sym (mul-assoc (length p) (l .actions) younger) in
       let r : suc b * younger ≤ length p * l .actions * younger = mul-le-mul-right younger below in
       let s = suc-mul b younger in
       let n = sized .all-nodes in
-      let y = fits .some-younger in
       omega arith
 
+  pub row-inside : b * younger < l .nodes
+  row-inside = omega (arith, row-end, fits .some-younger)
+
   pub row-whole : b * younger + younger ≤ mostNodes
-  row-whole =
-      let q : length p * l .words ≡ length p * l .actions * younger =
-      ap (λ (x : ℕ). length p * x) (whole ∙ mul-comm younger (l .actions)) ∙ sym (mul-assoc (length p) (l .actions) younger) in
-      let r : suc b * younger ≤ length p * l .actions * younger = mul-le-mul-right younger below in
-      let s = suc-mul b younger in
-      let n = sized .all-nodes in
-      let m = sized .few-nodes in
-      omega arith
+  row-whole = omega (arith, row-end, sized .few-nodes)
 
   pub row-fits : Fits w64 (b * younger)
   row-fits = let h = row-whole in record { fits = omega arith }

@@ -11,7 +11,7 @@ use lib.ListN.{length, getD}
 use borrow.Author.Needs.{needs}
 use Rattle.walk.specs.declared.level.Level.{Level}
 use Rattle.solver.specs.declared.spread.Spot.{Spot}
-use Rattle.solver.specs.code.Sizes.{mostRounds}
+use Rattle.solver.specs.code.Sizes.{largest16}
 use Rattle.solver.specs.code.Work.{Work, marksTo}
 use Rattle.solver.specs.code.Chains.{headOf, Chains}
 use Rattle.solver.specs.code.Spread.{Spotted, evenNodes, oddNodes}
@@ -39,7 +39,7 @@ module _ (l : Level) (younger : ℕ) (fits : Fitted l younger) where
   pub action-fits : (v : ℕ) → Fits w8 (v % l .actions)
   action-fits v = let a = action-lt v in let f = fits .few-actions in record { fits = omega arith }
 
-  pub spot-spotted : (n j : ℕ) → n < mostRounds → Spotted (spotAt l younger n j)
+  pub spot-spotted : (n j : ℕ) → n < largest16 → Spotted (spotAt l younger n j)
   spot-spotted n j h =
       let f = fits .few-words in
       let y = younger-le in

@@ -19,7 +19,7 @@ use Rattle.walk.specs.declared.level.Level.{Level}
 use Rattle.walk.specs.code.Levels.{arenaOf}
 use Rattle.walk.specs.code.Nodes.{Sized}
 use Rattle.sheet.specs.Limits.{mostNodes}
-use Rattle.solver.specs.code.Sizes.{mostRounds}
+use Rattle.solver.specs.code.Sizes.{largest16}
 use Rattle.solver.specs.code.Work.{Work, work, Lent}
 use Rattle.solver.specs.code.Sweep.{Index, index, Fitted, sweepTo}
 use Rattle.solver.specs.code.First.{Placed}
@@ -132,7 +132,7 @@ module _ (p : List ℕ) (g : List (List ℕ)) (u f reaching lines leading cells 
     pub round-queue : hi ≤ length (w .queue)
     round-queue = let a = round-inside in let b = r .ready .good .queue-size in let e = nodes-is in omega arith
 
-    pub round-few : n < mostRounds
+    pub round-few : n < largest16
     round-few = let a = round-inside in let b = r .few in let c = can .sized .few-nodes in omega arith
 
     module _ {v : Work} (e : v ≡ sweepTo (index u reaching lines leading cells) l younger n w lo (hi - lo)) where

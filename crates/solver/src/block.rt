@@ -17,7 +17,7 @@ ghost use lib.ListN.{length};
 ghost use Rattle.walk.specs.code.Levels.{arenaOf};
 ghost use Rattle.walk.specs.code.Nodes.{Sized};
 ghost use Rattle.sheet.specs.Limits.{mostNodes};
-ghost use Rattle.solver.specs.code.Sizes.{mostRounds};
+ghost use Rattle.solver.specs.code.Sizes.{largest16};
 ghost use Rattle.solver.specs.code.Work.{work, Lent, spoilRowTo};
 ghost use Rattle.solver.specs.code.Sweep.{Fitted};
 ghost use Rattle.solver.specs.code.Block.{blockedAt, blockTo, blocksTo};
@@ -32,7 +32,7 @@ fn spoil_row(
     count: usize,
     tail: usize,
 ) -> usize
-    requires { ⌜ (Lent (now ranks) (now masks) (now queue)) × (n < mostRounds) × (k + count ≤ mostNodes) ⌝ }
+    requires { ⌜ (Lent (now ranks) (now masks) (now queue)) × (n < largest16) × (k + count ≤ mostNodes) ⌝ }
     ensures { λ r.
         ⌜ work (now (ranks .exit)) (now (masks .exit)) (now (queue .exit)) r
         ≡ spoilRowTo n (work (now (ranks .entry)) (now (masks .entry)) (now (queue .entry)) tail) k count ⌝ }

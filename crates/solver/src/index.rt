@@ -13,12 +13,12 @@ ghost use Prim.Native.Nat.{_+_, _<_, _≤_};
 ghost use lib.ListN.{length, getD, set};
 ghost use Rattle.sheet.specs.code.Arrays.{toAt, lineCount};
 ghost use Rattle.sheet.specs.Limits.{mostMoves};
-ghost use Rattle.solver.specs.code.Sizes.{mostCells, mostRounds};
+ghost use Rattle.solver.specs.code.Sizes.{mostCells, largest16};
 ghost use Rattle.solver.specs.code.Chains.{Linked, cellKey, Indexed};
 
 // Place i, with key x, in front of its chain. A key that there cannot be has none.
 fn link(heads: &mut [u16], links: &mut [u16], i: usize, x: usize)
-    requires { ⌜ (i < length (now links)) × (i < mostRounds) ⌝ }
+    requires { ⌜ (i < length (now links)) × (i < largest16) ⌝ }
     ensures { λ r.
         ⌜ (now (heads .exit) ≡ set (now (heads .entry)) x (i + 1))
         × (now (links .exit) ≡ set (now (links .entry)) i (getD (now (heads .entry)) x 0)) ⌝ }

@@ -4,7 +4,7 @@ ghost use mathlib.Core.Path.{_≡_};
 ghost use Prim.Native.Nat.{_≤_, _<_};
 ghost use lib.ListN.{length};
 ghost use Rattle.sheet.specs.Limits.{mostActions};
-ghost use Rattle.solver.specs.code.Sizes.{mostRounds};
+ghost use Rattle.solver.specs.code.Sizes.{largest16};
 ghost use Rattle.solver.specs.code.Work.{work, Lent, fallTo, markTo, spoilAllTo};
 
 // Node k falls in round n + 1. As many nodes as the queue has entries have fallen where it is full: then none is left.
@@ -16,7 +16,7 @@ fn fall(
     k: usize,
     tail: usize,
 ) -> usize
-    requires { ⌜ (Lent (now ranks) (now masks) (now queue)) × (n < mostRounds) × (k < length (now masks)) ⌝ }
+    requires { ⌜ (Lent (now ranks) (now masks) (now queue)) × (n < largest16) × (k < length (now masks)) ⌝ }
     ensures { λ r.
         ⌜ work (now (ranks .exit)) (now (masks .exit)) (now (queue .exit)) r
         ≡ fallTo n (work (now (ranks .entry)) (now (masks .entry)) (now (queue .entry)) tail) k ⌝ }
@@ -40,7 +40,7 @@ pub(crate) fn mark(
     k: usize,
     tail: usize,
 ) -> usize
-    requires { ⌜ (Lent (now ranks) (now masks) (now queue)) × (n < mostRounds) × (c < mostActions) ⌝ }
+    requires { ⌜ (Lent (now ranks) (now masks) (now queue)) × (n < largest16) × (c < mostActions) ⌝ }
     ensures { λ r.
         ⌜ work (now (ranks .exit)) (now (masks .exit)) (now (queue .exit)) r
         ≡ markTo n c (work (now (ranks .entry)) (now (masks .entry)) (now (queue .entry)) tail) k ⌝ }
@@ -66,7 +66,7 @@ pub(crate) fn spoil_all(
     k: usize,
     tail: usize,
 ) -> usize
-    requires { ⌜ (Lent (now ranks) (now masks) (now queue)) × (n < mostRounds) ⌝ }
+    requires { ⌜ (Lent (now ranks) (now masks) (now queue)) × (n < largest16) ⌝ }
     ensures { λ r.
         ⌜ work (now (ranks .exit)) (now (masks .exit)) (now (queue .exit)) r
         ≡ spoilAllTo n (work (now (ranks .entry)) (now (masks .entry)) (now (queue .entry)) tail) k ⌝ }

@@ -12,7 +12,7 @@ ghost use mathlib.Core.Path.{_≡_};
 ghost use Prim.Native.Nat.{_-_, _≤_, _<_};
 ghost use lib.ListN.{length};
 ghost use Rattle.sheet.specs.Limits.{mostMoves};
-ghost use Rattle.solver.specs.code.Sizes.{mostCells, mostRounds};
+ghost use Rattle.solver.specs.code.Sizes.{mostCells, largest16};
 ghost use Rattle.solver.specs.code.Work.{work, Lent};
 ghost use Rattle.solver.specs.code.Chains.{Chains};
 ghost use Rattle.solver.specs.code.Spread.{Spotted};
@@ -21,7 +21,7 @@ ghost use Rattle.solver.specs.code.Sweep.{index, Fitted, spotAt, spreadT
 
 // The action and the younger actions of node j's word.
 fn spot_at(level: Level, younger: usize, n: u16, j: usize) -> Spot
-    requires { ⌜ (Fitted level younger) × (n < mostRounds) ⌝ }
+    requires { ⌜ (Fitted level younger) × (n < largest16) ⌝ }
     ensures { λ r. ⌜ (r ≡ spotAt level younger n j) × (Spotted r) ⌝ }
 {
     let v = j % level.words;
@@ -53,7 +53,7 @@ fn spread(
     j: usize,
     tail: usize,
 ) -> usize
-    requires { ⌜ (Lent (now ranks) (now masks) (now queue)) × (Fitted level younger) × (n < mostRounds)
+    requires { ⌜ (Lent (now ranks) (now masks) (now queue)) × (Fitted level younger) × (n < largest16)
         × (Chains mostMoves (now reaching) (now lines)) × (Chains mostCells (now leading) (now cells))
         × (Seen (now leading) (now cells) (level .words) younger (level .actions) (now seen) (now masks)) ⌝ }
     ensures { λ r.
@@ -113,7 +113,7 @@ pub(crate) fn sweep(
     hi: usize,
     tail: usize,
 ) -> usize
-    requires { ⌜ (Lent (now ranks) (now masks) (now queue)) × (Fitted level younger) × (n < mostRounds)
+    requires { ⌜ (Lent (now ranks) (now masks) (now queue)) × (Fitted level younger) × (n < largest16)
         × (Chains mostMoves (now reaching) (now lines)) × (Chains mostCells (now leading) (now cells)) × (hi ≤ length (now queue))
         × (Seen (now leading) (now cells) (level .words) younger (level .actions) (now seen) (now masks)) ⌝ }
     ensures { λ r.

@@ -64,7 +64,7 @@ impl State {
 }
 
 // The slot of age k; unknown where there is none.
-pub fn slot_in(window: [Slot; SLOTS], k: usize) -> Slot
+fn slot_in(window: [Slot; SLOTS], k: usize) -> Slot
     ensures { λ r. ⌜ r ≡ getD window k unknown ⌝ }
 {
     if k < SLOTS {

@@ -214,7 +214,7 @@ module _ (l : TableLayout) (r : Bool) (e : r ≡ rangesOk (says l [] [])) (g : n
   unfolding rangesOk
   short-delay = leb-true _ _ (both-left _ _ (both-right _ _ (both-right _ _ (passed e g))))
 
--- the chain as the code divides it
+-- the chain as the code divides it; six tests with one refusal, the first and the last apart
 
 six : {A : Type 0} (a b c d e f : Bool) (n : ℕ) (rest : Answer A) → check (both a (both b (both c (both d (both e f))))) n rest
     ≡ check a n (check (both b (both c (both d e))) n (check f n rest))

@@ -6,9 +6,9 @@ use Rattle.sheet.specs.Limits.{mostPositions, mostActions}
 abbrev pub mostCells : ℕ
 mostCells = mostPositions * mostActions
 
--- a round's number is below this, so that the next one still is a rank
-abbrev pub mostRounds : ℕ
-mostRounds = 65535
+-- the largest number of two bytes: the numbers of rounds and links are below it, so that the next one fits too
+abbrev pub largest16 : ℕ
+largest16 = 65535
 
 -- more than any word with a cell's action as its oldest, far below what a product could wrap at
 abbrev pub wordBound : ℕ

@@ -5,12 +5,12 @@ use mathlib.Core.List.{List, [], _∷_, _++_, map}
 use lib.ListN.{getD}
 use Rattle.sheet.specs.Limits.{mostActions, mostNodes}
 use Rattle.solver.specs.declared.spread.Spot.{Spot}
-use Rattle.solver.specs.code.Sizes.{mostRounds}
+use Rattle.solver.specs.code.Sizes.{largest16}
 use Rattle.solver.specs.code.Chains.{chain, headOf}
 
 -- the numbers of a spot are small, and its word is the rest and the action
 pub record Spotted (s : Spot) : Type 0 where
-  pub round : s .n < mostRounds
+  pub round : s .n < largest16
   pub few-words : s .words ≤ mostNodes
   pub few-younger : s .younger ≤ mostNodes
   pub few-rest : s .rest ≤ mostNodes

@@ -4,4 +4,8 @@ use Rattle.capi.proofs.control.lq_observe.Statement.{statement}
 use Rattle.capi.proofs.control.lq_observe.Tie as tie
 
 pub lq-observe-spec : {M : Type 1} → statement M
-lq-observe-spec = tie.close (tie.spec (λ c κs. search observes) (λ c. search observes) (λ c κs. search observes) (λ c. search observes) (λ c. search observes) (λ c. search observes) (λ c κs. search observes) (λ c. search observes) (λ c. search observes) (λ c. search observes) (λ c. search observes))
+lq-observe-spec =
+    tie.close
+    (tie.spec (λ c κs. search observes) (λ c. search observes) (λ c κs. search observes) (λ c. search observes)
+    (λ c. search observes) (λ c. search observes) (λ c κs. search observes) (λ c. search observes)
+    (λ c. search observes) (λ c. search observes) (λ c. search observes))

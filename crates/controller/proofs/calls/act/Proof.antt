@@ -4,4 +4,8 @@ use Rattle.controller.proofs.calls.act.Statement.{statement}
 use Rattle.controller.proofs.calls.act.Tie as tie
 
 pub act-spec : {M : Type 1} → statement M
-act-spec = tie.close (tie.spec (λ c κs. search call-laws) (λ c. search call-laws) (λ c κs. search call-laws) (λ c κs. search call-laws) (λ c. search call-laws) (λ c κs. search call-laws) (λ c κs. search call-laws) (λ c. search call-laws) (λ c. search call-laws))
+act-spec =
+    tie.close
+    (tie.spec (λ c κs. search call-laws) (λ c. search call-laws) (λ c κs. search call-laws) (λ c κs. search call-laws)
+    (λ c. search call-laws) (λ c κs. search call-laws) (λ c κs. search call-laws) (λ c. search call-laws)
+    (λ c. search call-laws))

@@ -4,4 +4,12 @@ use Rattle.controller.proofs.calls.act_with.Statement.{statement}
 use Rattle.controller.proofs.calls.act_with.Tie as tie
 
 pub act-with-spec : {M : Type 1} → statement M
-act-with-spec = tie.close (tie.spec (λ c κs. search act-laws) (λ c κs. search act-laws) (λ c. search act-laws) (λ c κs. search act-laws) (λ c. search act-laws) (λ c κs. search act-laws) (λ c. search act-laws) (λ c κs. search act-laws) (λ c κs. search act-laws) (λ c. search act-laws) (λ c κs. search act-laws) (λ c κs. search act-laws) (λ c. search act-laws) (λ c. search act-laws) (λ c. search act-laws) (λ c κs. search act-laws) (λ c. search act-laws) (λ c κs. search act-laws) (λ c. search act-laws) (λ c. search act-laws) (λ c κs. search act-laws) (λ c κs. search act-laws) (λ c. search act-laws) (λ c κs. search act-laws) (λ c κs. search act-laws) (λ c. search act-laws))
+act-with-spec =
+    tie.close
+    (tie.spec (λ c κs. search act-laws) (λ c κs. search act-laws) (λ c. search act-laws) (λ c κs. search act-laws)
+    (λ c. search act-laws) (λ c κs. search act-laws) (λ c. search act-laws) (λ c κs. search act-laws)
+    (λ c κs. search act-laws) (λ c. search act-laws) (λ c κs. search act-laws) (λ c κs. search act-laws)
+    (λ c. search act-laws) (λ c. search act-laws) (λ c. search act-laws) (λ c κs. search act-laws)
+    (λ c. search act-laws) (λ c κs. search act-laws) (λ c. search act-laws) (λ c. search act-laws)
+    (λ c κs. search act-laws) (λ c κs. search act-laws) (λ c. search act-laws) (λ c κs. search act-laws)
+    (λ c κs. search act-laws) (λ c. search act-laws))

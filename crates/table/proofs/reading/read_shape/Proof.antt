@@ -4,4 +4,9 @@ use Rattle.table.proofs.reading.read_shape.Statement.{statement}
 use Rattle.table.proofs.reading.read_shape.Tie as tie
 
 pub read-shape-spec : {M : Type 1} → statement M
-read-shape-spec = tie.close (tie.spec (λ c. search shapes) (λ c κs. search shapes) (λ c. search shapes) (λ c κs. search shapes) (λ c. search shapes) (λ c κs. search shapes) (λ c κs. search shapes) (λ c. search shapes) (λ c κs. search shapes) (λ c κs. search shapes) (λ c κs. search shapes) (λ c. search shapes) (λ c. search shapes))
+read-shape-spec =
+    tie.close
+    (tie.spec (λ c. search shapes) (λ c κs. search shapes) (λ c. search shapes) (λ c κs. search shapes)
+    (λ c. search shapes) (λ c κs. search shapes) (λ c κs. search shapes) (λ c. search shapes)
+    (λ c κs. search shapes) (λ c κs. search shapes) (λ c κs. search shapes) (λ c. search shapes)
+    (λ c. search shapes))
