@@ -12,11 +12,11 @@ use lib.ListN.{length, getD, set}
 use lib.Seq.{ext-getD}
 use borrow.Author.Needs.{needs}
 use borrow.Author.Tests.{eq-eqb, ne-eqb, lt-ltb, le-ltb, le-leb, lt-leb, not-true, not-false}
-use Rattle.theory.specs.Fold.{both, allBelow, anyBelow, tabulate}
+use Rattle.theory.specs.Fold.{both, allBelow, anyBelow, tabulate, count}
 use Rattle.theory.specs.Rounds.{Arena, spoiltBy, fell, falls, rankIn, ranksAfter, finalRanks}
 use Rattle.theory.specs.Delay.{onRight}
 use Rattle.theory.proofs.Fold.{bool, below?, both-true, both-left, both-right, both-false, any-none, any-suc, either-right, tabulate-same}
-use Rattle.theory.proofs.Fold.{length-tabulate, getD-tabulate, any-below-none, any-some, not-both, count, count-le, count-less, both-none}
+use Rattle.theory.proofs.Fold.{length-tabulate, getD-tabulate, any-below-none, any-some, not-both, count-le, count-less, both-none}
 use Rattle.theory.proofs.Fold.{both-second, either-first, not-not}
 use Rattle.theory.proofs.Rounds.{rank-zero, rank-le, length-after, stays-fallen, fell-true, fell-false, stood-rank, in-fallen, in-fell, in-stands, after-suc, final-is}
 use Rattle.sheet.specs.Kinds.{controllerAt, safeAt}

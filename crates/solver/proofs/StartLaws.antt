@@ -7,11 +7,11 @@ use mathlib.Core.List.{List}
 use native.Mathlib.Omega.{arith}
 use lib.Pow.{pow-pos, pow-mono}
 use lib.ListN.{length, getD, List·getD-eq-default}
-use Rattle.theory.specs.Fold.{both}
+use Rattle.theory.specs.Fold.{both, count}
 use Rattle.theory.specs.Rounds.{Arena, fell, falls, rankIn, ranksAfter, maskBelow}
 use Rattle.theory.specs.Delay.{onRight}
 use Rattle.theory.specs.Table.{bit}
-use Rattle.theory.proofs.Fold.{bool, not-both, below?, both-none, both-second, count}
+use Rattle.theory.proofs.Fold.{bool, not-both, below?, both-none, both-second}
 use Rattle.theory.proofs.Rounds.{fell-true, fell-false, rank-zero, rank-suc, rank-out}
 use Rattle.theory.proofs.Masks.{mask-bit, mask-lt}
 use Rattle.sheet.specs.Kinds.{controllerAt, safeAt}

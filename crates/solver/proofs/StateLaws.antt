@@ -11,9 +11,10 @@ use lib.Pow.{pow-pos}
 use lib.ListN.{length, getD, set, length-set, List·getD-eq-default}
 use lib.Seq.{getD-set-same, getD-set-other}
 use borrow.Author.Tests.{eq-eqb, ne-eqb, lt-ltb, not-true}
+use Rattle.theory.specs.Fold.{count}
 use Rattle.theory.specs.Rounds.{Arena, spoiltBy, fell, ranksAfter}
 use Rattle.theory.specs.Table.{bit}
-use Rattle.theory.proofs.Fold.{bool, not-both, below?, same?, count, count-less}
+use Rattle.theory.proofs.Fold.{bool, not-both, below?, same?, count-less}
 use Rattle.theory.proofs.Rounds.{fell-true, fell-false, stood-rank}
 use Rattle.theory.proofs.Masks.{zero-bit}
 use Rattle.solver.specs.code.Work.{Work, work, fallTo, leaveTo, markTo, marksTo, spoilAllTo}

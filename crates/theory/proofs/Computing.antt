@@ -1,6 +1,6 @@
 -- Names for what a table of cases computes with: to unfold one of them is to unfold every definition on its line. Assumes nothing.
 use mathlib.Core.Bool.{Bool, true}
-use Rattle.theory.specs.Fold.{both, either, allBelow, anyBelow, firstNot, anyOf, tabulate}
+use Rattle.theory.specs.Fold.{both, either, allBelow, anyBelow, firstNot, count, anyOf, tabulate}
 use Rattle.theory.specs.Answer.{check, onAccepted}
 use Rattle.theory.specs.Buffer.{over}
 use Rattle.theory.specs.Bytes.{bytesOf, numberAt}
@@ -11,9 +11,10 @@ use Rattle.theory.specs.Delay.{odd, words, initialWords, onRight, withWo
 use Rattle.theory.specs.Delay.{goodFrom, goodWith, winning, flagBy, flags, answerBy, answer}
 use Rattle.theory.specs.Table.{ours, flagged, lacks, has, bit, allows}
 use Rattle.theory.specs.Exact.{leastFlagged, lowestIn, actionAt, arrive, advance, turnBy, playBy, exactChoice, exact, worked}
+use Rattle.theory.specs.Reach.{isTarget, leads, markIn, marksAfter, reached}
 
 unfoldable pub folds-compute : Bool
-unfolding both either allBelow anyBelow firstNot anyOf tabulate
+unfolding both either allBelow anyBelow firstNot count anyOf tabulate
 folds-compute = true
 
 unfoldable pub answers-compute : Bool
@@ -52,6 +53,10 @@ unfoldable pub exact-computes : Bool
 unfolding leastFlagged lowestIn actionAt arrive advance turnBy playBy exactChoice exact worked
 exact-computes = true
 
+unfoldable pub reach-computes : Bool
+unfolding isTarget leads markIn marksAfter reached
+reach-computes = true
+
 unfoldable pub theory-computes : Bool
-unfolding folds-compute answers-compute buffers-compute bytes-compute words-compute plays-compute rounds-compute delays-compute tables-compute exact-computes
+unfolding folds-compute answers-compute buffers-compute bytes-compute words-compute plays-compute rounds-compute delays-compute tables-compute exact-computes reach-computes
 theory-computes = true

@@ -1,6 +1,6 @@
 -- Laws of specs/Fold.antt: tests, folds over indices, tabulated lists. Assumes nothing.
 use Prim.Native.Nat.{ℕ, zero, suc, _+_, _-_, _≤_, _<_}
-use mathlib.Core.Path.{_≡_, refl, sym, _∙_, ap}
+use mathlib.Core.Path.{_≡_, refl, sym, _∙_, ap, fun-ext}
 use mathlib.Core.Bool.{Bool, true, false, not, cond, true≢false, false≢true}
 use mathlib.Core.Logic.{_⊎_, inl, inr, ⊎-elim}
 use mathlib.Core.List.{List, [], _∷_, map, List·Memᴰ, List·Memᴰ·head, List·Memᴰ·tail, List·Memᴰ·cases-cons, List·Memᴰ·not-nil}
@@ -11,7 +11,7 @@ use lib.Dec.{eqb, ltb}
 use lib.ListN.{length, getD, set, take, drop, length-set, length-drop, List·getD-eq-default}
 use lib.Seq.{getD-set-same, getD-set-other, ext-getD, take-all}
 use borrow.Author.Tests.{eqb-true, eqb-false, ltb-true, ltb-false, not-true, not-false}
-use Rattle.theory.specs.Fold.{both, either, allBelow, anyBelow, firstNot, anyOf, tabulate}
+use Rattle.theory.specs.Fold.{both, either, allBelow, anyBelow, firstNot, count, anyOf, tabulate}
 
 -- a test passes or fails
 pub bool : (b : Bool) → (b ≡ true) ⊎ (b ≡ false)
@@ -81,6 +81,11 @@ pub either-first : (a b : Bool) → b ≡ false → either a b ≡ a
 unfolding either
 either-first true b e = refl
 either-first false b e = e
+
+pub either-assoc : (a b c : Bool) → either (either a b) c ≡ either a (either b c)
+unfolding either
+either-assoc true b c = refl
+either-assoc false b c = refl
 
 pub not-not : (b : Bool) → not (not b) ≡ b
 not-not true = refl
@@ -337,11 +342,6 @@ module _ {A : Type 0} where
 pub take-rest : (l : List ℕ) (n : ℕ) → take (length l - n) (drop n l) ≡ drop n l
 take-rest l n = take-all (length l - n) (drop n l) (rw (length-drop n l) (le-refl (length l - n)))
 
--- how many indices below n pass a test
-unfoldable pub count : (ℕ → Bool) → ℕ → ℕ
-count p zero = 0
-count p (suc n) = count p n + cond (p n) 1 0
-
 pub count-le : (p : ℕ → Bool) (n : ℕ) → count p n ≤ n
 unfolding count
 count-le p zero = omega arith
@@ -381,3 +381,60 @@ count-less p q (suc n) f =
         (λ g. inl (λ i h. ⊎-elim (λ (l : i < n). g i l) (λ (m : i ≡ n). rw m e) (below-cases h)))
         (λ (l : count p n < count q n). inr (rw e (omega arith)))
         r
+
+pub count-suc : (p : ℕ → Bool) (n : ℕ) → count p (suc n) ≡ count p n + cond (p n) 1 0
+unfolding count
+count-suc p n = refl
+
+-- no index from m on counts
+pub count-short : (p : ℕ → Bool) (m n : ℕ) → m ≤ n → ((i : ℕ) → m ≤ i → p i ≡ false) → count p n ≡ count p m
+count-short p m zero h f = let z : m ≡ 0 = omega arith in ap (count p) (sym z)
+count-short p m (suc n) h f =
+    ⊎-elim
+    (λ (l : m < suc n).
+    let e = f n (omega arith) in
+    let r = count-short p m n (omega arith) f in
+    rw (count-suc p n, e) (omega arith))
+    (λ (g : suc n ≤ m). let z : m ≡ suc n = omega arith in ap (count p) (sym z))
+    (below? m (suc n))
+
+-- one index more
+pub count-more : (p q : ℕ → Bool) (v n : ℕ) → v < n → p v ≡ false → q v ≡ true → ((k : ℕ) → (k ≡ v → ⊥) → q k ≡ p k) → count q n ≡ count p n + 1
+count-more p q v zero h f t o = absurd (omega arith)
+count-more p q v (suc n) h f t o =
+    ⊎-elim
+    (λ (l : v < n).
+    let r = count-more p q v n l f t o in
+    let s = o n (λ e. omega arith) in
+    rw (count-suc q n, count-suc p n, s) (omega arith))
+    (λ (e : v ≡ n).
+    let r = same n (omega arith) in
+    let a : p n ≡ false = rw e at f in
+    let b : q n ≡ true = rw e at t in
+    rw (count-suc q n, count-suc p n, a, b) (omega arith))
+    (below-cases h)
+  where
+    same : (m : ℕ) → m ≤ v → count q m ≡ count p m
+    same zero l = omega (arith, count-le q 0, count-le p 0)
+    same (suc m) l =
+        let r = same m (omega arith) in
+        let s = o m (λ e. omega arith) in
+        rw (count-suc q m, count-suc p m, s) (omega arith)
+
+-- an entry of a tabulated list, by its index
+any-first : (p : ℕ → Bool) (n : ℕ) → anyBelow p (suc n) ≡ either (p 0) (anyBelow (λ k. p (suc k)) n)
+unfolding anyBelow either
+any-first p zero = sym (either-first (p 0) false refl)
+any-first p (suc n) = rw (any-suc p (suc n), any-first p n) (either-assoc (p 0) _ _)
+
+pub any-tabulate : {A : Type 0} (p : A → Bool) (f : ℕ → A) (i n : ℕ) → anyOf p (tabulate f i n) ≡ anyBelow (λ k. p (f (i + k))) n
+any-tabulate p f i zero = rw (tabulate-zero f i, any-of-nil p) (sym (any-none (λ k. p (f (i + k)))))
+any-tabulate p f i (suc n) =
+    rw (tabulate-suc f i n, any-of-cons p (f i) (tabulate f (suc i) n), any-tabulate p f (suc i) n)
+    (sym (any-first (λ k. p (f (i + k))) n ∙ rw z (ap (either (p (f i))) (ap (λ g. anyBelow g n) (fun-ext (λ k. ap (λ m. p (f m)) (s k)))))))
+  where
+    z : i + 0 ≡ i
+    z = omega arith
+
+    s : (k : ℕ) → i + suc k ≡ suc i + k
+    s k = omega arith

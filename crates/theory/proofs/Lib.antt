@@ -17,5 +17,6 @@ pub mod OurTable
 pub mod NodeStrategy
 pub mod Monotone
 pub mod Exact
+pub mod Reach
 pub mod Computing
 pub mod Cases

@@ -9,10 +9,10 @@ use native.Mathlib.Omega.{arith}
 use lib.ListN.{length, getD}
 use lib.Seq.{ext-getD}
 use borrow.Author.Tests.{eq-eqb, ne-eqb, not-true}
-use Rattle.theory.specs.Fold.{both, tabulate}
+use Rattle.theory.specs.Fold.{both, tabulate, count}
 use Rattle.theory.specs.Game.{Target, absent, to}
 use Rattle.theory.specs.Rounds.{Arena, bad, spoiltBy, fell, falls, rankIn, ranksAfter, finalRanks}
-use Rattle.theory.proofs.Fold.{bool, not-both, both-true, both-left, both-right, below?, any-of-none, any-of-fails, length-tabulate, getD-tabulate, getD-tabulate-out, tabulate-same, count}
+use Rattle.theory.proofs.Fold.{bool, not-both, both-true, both-left, both-right, below?, any-of-none, any-of-fails, length-tabulate, getD-tabulate, getD-tabulate-out, tabulate-same}
 use Rattle.theory.proofs.Fold.{count-le, count-less}
 
 -- an action is unspoilt exactly if every outcome is a node that has not fallen

@@ -1,6 +1,6 @@
 -- Shared vocabulary of all crates: tests over the indices below a bound, and lists made from them.
 -- Assumes nothing.
-use Prim.Native.Nat.{ℕ, zero, suc}
+use Prim.Native.Nat.{ℕ, zero, suc, _+_}
 use mathlib.Core.Bool.{Bool, true, false, cond}
 use mathlib.Core.List.{List, [], _∷_}
 
@@ -27,6 +27,11 @@ anyBelow p (suc n) = either (anyBelow p n) (p n)
 unfoldable pub firstNot : (ℕ → Bool) → ℕ → ℕ
 firstNot p zero = 0
 firstNot p (suc n) = cond (allBelow p n) n (firstNot p n)
+
+-- how many indices below n pass a test
+unfoldable pub count : (ℕ → Bool) → ℕ → ℕ
+count p zero = 0
+count p (suc n) = count p n + cond (p n) 1 0
 
 -- p holds of some element
 unfoldable pub anyOf : {A : Type 0} → (A → Bool) → List A → Bool

@@ -12,4 +12,5 @@ pub mod Rounds
 pub mod Delay
 pub mod Table
 pub mod Exact
+pub mod Reach
 pub mod cases
