@@ -12,12 +12,15 @@ use borrow.Author.Tests.{leb-true, eqb-true}
 use Rattle.theory.specs.Answer.{refused, accepted}
 use Rattle.theory.specs.Delay.{arena, words}
 use Rattle.theory.proofs.Fold.{both-left, both-right, all-at}
-use Rattle.theory.proofs.Answer.{check-accepted}
+use Rattle.theory.specs.Reach.{reached}
+use Rattle.theory.proofs.Answer.{check-accepted, accepted-same, accepted-on}
 use Rattle.sheet.specs.Form.{offsetOf, lengthOf, placeOf, entryOk, contentsOk, placedAt, partAt, bodyOf}
 use Rattle.sheet.specs.Kinds.{controllerAt}
-use Rattle.sheet.specs.Checks.{positionsOk, headerOk, targetsOk, movesOk, allLeave, nodesOf, sizeOk}
-use Rattle.sheet.specs.Reading.{gameLetters, headerBody, positionsBody, targetsBody, movesBody, startOf, actionCount, delayOf, layoutOf, readAnswer, readingMeans, refusalNumber}
+use Rattle.sheet.specs.Checks.{positionsOk, headerOk, targetsOk, movesOk, nodesOf, sizeOk}
+use Rattle.sheet.specs.Bodies.{gameLetters, headerBody, positionsBody, targetsBody, movesBody, startOf, actionCount, delayOf}
+use Rattle.sheet.specs.Reading.{layoutOf, checkedAnswer, readAnswer, readingMeans, refusalNumber}
 use Rattle.sheet.specs.SheetGame.{gameOf}
+use Rattle.sheet.specs.code.Steps.{Checked}
 use Rattle.sheet.specs.declared.refusal.Refusal.{Refusal}
 use Rattle.sheet.specs.declared.reading.Layout.{Layout}
 use Rattle.sheet.specs.declared.reading.Reading.{Reading}
@@ -60,43 +63,42 @@ module _ (w : ℕ) (letters s : List ℕ) (ok : contentsOk w letters s ≡ true)
       length-take-le (lengthOf w s k) (drop (offsetOf w s k) s)
       (rw (length-drop (offsetOf w s k) s) (omega (arith, body-inside k h)))
 
--- the seven checks passed
-pub record Read (s : List ℕ) : Type 0 where
-  pub contents : contentsOk 2 gameLetters s ≡ true
-  pub positions : positionsOk (positionsBody s) ≡ true
-  pub header : headerOk (positionsBody s) (headerBody s) ≡ true
-  pub targets : targetsOk (positionsBody s) (actionCount s) (targetsBody s) ≡ true
-  pub moves : movesOk (positionsBody s) (movesBody s) ≡ true
-  pub leave : allLeave (positionsBody s) (targetsBody s) (movesBody s) ≡ true
-  pub size : sizeOk (positionsBody s) (actionCount s) (delayOf s) ≡ true
+-- six checks passed, or all seven
 
-module _ (s : List ℕ) (l : Layout) (e : readAnswer s ≡ accepted l) where
-  pub read-is : Read s × (l ≡ layoutOf s)
-  unfolding readAnswer
-  read-is =
+module _ (s : List ℕ) (l : Layout) where
+  pub checked-is : checkedAnswer s ≡ accepted l → Checked s × (l ≡ layoutOf s)
+  unfolding checkedAnswer
+  checked-is e =
       let c₁ = check-accepted _ _ _ e in
       let c₂ = check-accepted _ _ _ (c₁ .1) in
       let c₃ = check-accepted _ _ _ (c₂ .1) in
       let c₄ = check-accepted _ _ _ (c₃ .1) in
       let c₅ = check-accepted _ _ _ (c₄ .1) in
-      let c₆ = check-accepted _ _ _ (c₅ .1) in
-      let c₇ = check-accepted _ _ _ (c₆ .1) in (
+      let c₆ = check-accepted _ _ _ (c₅ .1) in (
         record {
-          contents = c₁ .0;
-          positions = c₂ .0;
-          header = c₃ .0;
+          headed = record { contents = c₁ .0; positions = c₂ .0; header = c₃ .0 };
           targets = c₄ .0;
           moves = c₅ .0;
           leave = c₆ .0;
-          size = c₇ .0;
         },
-        same (c₇ .1),
+        sym (accepted-same (c₆ .1)),
       )
-    where
-      same : accepted (layoutOf s) ≡ accepted l → l ≡ layoutOf s
-      same q = cc
 
--- the numbers of an accepted sheet
+  both-parts : readAnswer s ≡ accepted l → (checkedAnswer s ≡ accepted l) × (sizeOk (positionsBody s) (actionCount s) (delayOf s) ≡ true)
+  unfolding readAnswer
+  both-parts e =
+      let x = accepted-on (checkedAnswer s) _ e in
+      let c₇ = check-accepted _ _ _ (x .2) in
+      (x .1 ∙ ap accepted (accepted-same (c₇ .1)), c₇ .0)
+
+  pub read-is : readAnswer s ≡ accepted l → Checked s × (l ≡ layoutOf s)
+  read-is e = checked-is (both-parts e .0)
+
+  pub few-nodes : readAnswer s ≡ accepted l → nodesOf (length (positionsBody s)) (actionCount s) (delayOf s) ≤ mostNodes
+  unfolding sizeOk
+  few-nodes e = leb-true _ _ (both-parts e .1)
+
+-- the numbers of a checked sheet
 pub record Ranges (s : List ℕ) : Type 0 where
   pub some-position : 1 ≤ length (positionsBody s)
   pub few-positions : length (positionsBody s) ≤ mostPositions
@@ -107,19 +109,18 @@ pub record Ranges (s : List ℕ) : Type 0 where
   pub whole-targets : length (targetsBody s) ≡ 3 * (length (targetsBody s) / 3)
   pub whole-moves : length (movesBody s) ≡ 2 * (length (movesBody s) / 2)
   pub few-moves : length (movesBody s) / 2 ≤ mostMoves
-  pub few-nodes : nodesOf (length (positionsBody s)) (actionCount s) (delayOf s) ≤ mostNodes
 
-module _ (s : List ℕ) (r : Read s) where
+module _ (s : List ℕ) (r : Checked s) where
   pub ranges : Ranges s
-  unfolding positionsOk headerOk targetsOk movesOk sizeOk startOf actionCount delayOf
+  unfolding positionsOk headerOk targetsOk movesOk startOf actionCount delayOf
   ranges =
-      let p = both-right _ _ (r .positions) in
-      let h = r .header in
+      let p = both-right _ _ (r .headed .positions) in
+      let h = r .headed .header in
       let a = both-right _ _ h in
       let b = both-right _ _ a in
       let d = both-right _ _ b in
       record {
-        some-position = leb-true _ _ (both-left _ _ (r .positions));
+        some-position = leb-true _ _ (both-left _ _ (r .headed .positions));
         few-positions = leb-true _ _ (both-left _ _ p);
         some-action = leb-true _ _ (both-left _ _ a);
         few-actions = leb-true _ _ (both-left _ _ b);
@@ -128,7 +129,6 @@ module _ (s : List ℕ) (r : Read s) where
         whole-targets = omega (arith, eqb-true (length (targetsBody s) % 3) 0 (both-left _ _ (r .targets)));
         whole-moves = omega (arith, eqb-true (length (movesBody s) % 2) 0 (both-left _ _ (r .moves)));
         few-moves = leb-true _ _ (both-left _ _ (both-right _ _ (r .moves)));
-        few-nodes = leb-true _ _ (r .size);
       }
 
 -- what an accepted reading carries
@@ -143,6 +143,7 @@ pub record Carries (s : List ℕ) (l : Layout) : Type 0 where
   pub positions-size : l .positions .size ≡ length (positionsBody s)
   pub targets-size : l .targets .size ≡ length (targetsBody s)
   pub moves-size : l .moves .size ≡ length (movesBody s)
+  pub reached : l .reached ≡ reached (gameOf s)
 
 carries-own : (s : List ℕ) → contentsOk 2 gameLetters s ≡ true → Carries s (layoutOf s)
 unfolding layoutOf bodyOf placedAt
@@ -158,10 +159,14 @@ carries-own s ok =
       positions-size = sym (body-length 2 gameLetters s ok 1 (lit< tt));
       targets-size = sym (body-length 2 gameLetters s ok 2 (lit< tt));
       moves-size = sym (body-length 2 gameLetters s ok 3 (lit< tt));
+      reached = refl;
     }
 
+pub carries-checked : (s : List ℕ) (l : Layout) → checkedAnswer s ≡ accepted l → Carries s l
+carries-checked s l e = let r = checked-is s l e in rw (r .1) (carries-own s (r .0 .headed .contents))
+
 pub carries : (s : List ℕ) (l : Layout) → readAnswer s ≡ accepted l → Carries s l
-carries s l e = let r = read-is s l e in rw (r .1) (carries-own s (r .0 .contents))
+carries s l e = carries-checked s l (both-parts s l e .0)
 
 -- the nodes that check 7 counts are those of the game's arena
 pub arena-nodes : (s : List ℕ) (d : ℕ) → arena (gameOf s) d .nodes ≡ nodesOf (length (positionsBody s)) (actionCount s) d

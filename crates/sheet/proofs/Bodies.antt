@@ -11,9 +11,10 @@ use borrow.Author.Tests.{ltb-true, ltb-false, eq-eqb, ne-eqb}
 use Rattle.theory.specs.Fold.{allBelow, tabulate}
 use Rattle.theory.specs.Game.{Target, Game}
 use Rattle.theory.proofs.Fold.{bool, below?, all-at, first, first-suc, tabulate-zero, tabulate-suc, getD-tabulate, getD-tabulate-out}
-use Rattle.sheet.specs.Reading.{positionsBody, targetsBody, movesBody, startOf, actionCount}
+use Rattle.sheet.specs.Bodies.{positionsBody, targetsBody, movesBody, startOf, actionCount}
 use Rattle.sheet.specs.SheetGame.{movesIn, movesOf, gameBy, gameOf}
-use Rattle.sheet.proofs.Accepted.{Read, ranges}
+use Rattle.sheet.specs.code.Steps.{Checked}
+use Rattle.sheet.proofs.Accepted.{ranges}
 use Rattle.sheet.proofs.Legality.{legal, target-read, moves-ordered}
 use Rattle.sheet.specs.code.Arrays.{lineCount, fromBelow, firstLine, firstsOf, toAt, tosBetween, viewOf, bodiesGame, indexEntries}
 use Rattle.sheet.proofs.MoveLaws.{first-skips}
@@ -151,7 +152,7 @@ no-member : (l : List ℕ) → ((x : ℕ) → List·Memᴰ x l → ⊥) → [] �
 no-member [] f = refl
 no-member (x ∷ xs) f = absurd (f x (List·Memᴰ·head refl))
 
-module _ (s : List ℕ) (r : Read s) where
+module _ (s : List ℕ) (r : Checked s) where
   moves-read : (q : ℕ) → tosBetween (movesBody s) (getD (firstsOf (movesBody s)) q 0) (getD (firstsOf (movesBody s)) (suc q) 0)
       ≡ movesOf (movesBody s) q
   unfolding gameOf

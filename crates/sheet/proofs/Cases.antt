@@ -8,7 +8,8 @@ use Rattle.theory.specs.Fold.{tabulate}
 use Rattle.theory.specs.Game.{absent, to}
 use Rattle.sheet.specs.Limits.{width}
 use Rattle.sheet.specs.Form.{entrySize}
-use Rattle.sheet.specs.Reading.{gameLetters, readAnswer}
+use Rattle.sheet.specs.Bodies.{gameLetters}
+use Rattle.sheet.specs.Reading.{readAnswer}
 use Rattle.sheet.specs.SheetGame.{gameOf}
 use Rattle.sheet.specs.cases.Sheets.{Case, guessBytes, guessS, guessP, guessC, guessU, lines, star, layout, right, wrong, cases}
 use Rattle.sheet.proofs.Computing.{sheet-computes}

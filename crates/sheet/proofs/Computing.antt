@@ -4,7 +4,8 @@ use Rattle.theory.proofs.Computing.{theory-computes}
 use Rattle.sheet.specs.Form.{entrySize, letterOf, offsetOf, lengthOf, placeOf, entryOk, contentsOk, placedAt, partAt, bodyOf, entryOf, entriesFrom, bodies, sheetOf}
 use Rattle.sheet.specs.Kinds.{kindOf, kindAt, isKnown, isController, isEnvironment, isSafe, knownAt, controllerAt, environmentAt, safeAt}
 use Rattle.sheet.specs.Checks.{positionsOk, headerOk, keyAt, risesAt, targetOk, targetsOk, moveOk, movesOk, beginsAt, hasLine, leavesAt, allLeave, nodesOf, sizeOk}
-use Rattle.sheet.specs.Reading.{startOf, actionCount, delayOf, layoutOf, readAnswer}
+use Rattle.sheet.specs.Bodies.{startOf, actionCount, delayOf}
+use Rattle.sheet.specs.Reading.{layoutOf, checkedAnswer, readAnswer}
 use Rattle.sheet.specs.SheetGame.{isLine, targetIn, movesIn, targetOf, movesOf, gameOf}
 use Rattle.sheet.specs.cases.Yards.{sheetWith, guessTargets, guessMoves, guess, splitGate, loop, hall}
 
@@ -21,7 +22,7 @@ unfolding positionsOk headerOk keyAt risesAt targetOk targetsOk moveOk movesOk b
 checks-compute = true
 
 unfoldable pub readings-compute : Bool
-unfolding startOf actionCount delayOf layoutOf readAnswer
+unfolding startOf actionCount delayOf layoutOf checkedAnswer readAnswer
 readings-compute = true
 
 unfoldable pub games-compute : Bool

@@ -14,11 +14,13 @@ use Rattle.theory.specs.Game.{Target, absent, to, Legal, LegalTarget, LegalMove
 use Rattle.theory.proofs.Fold.{bool, not-both, both-true, both-left, both-right, all-at, any-some, below-cases, below?, either-second}
 use Rattle.sheet.specs.Kinds.{kindAt, isController, isEnvironment, controllerAt, environmentAt}
 use Rattle.sheet.specs.Checks.{keyAt, targetOk, targetsOk, moveOk, movesOk, risesAt, beginsAt, hasLine, leavesAt, allLeave}
-use Rattle.sheet.specs.Reading.{positionsBody, targetsBody, movesBody, startOf, actionCount, readAnswer}
+use Rattle.sheet.specs.Bodies.{positionsBody, targetsBody, movesBody, startOf, actionCount}
+use Rattle.sheet.specs.Reading.{readAnswer}
 use Rattle.sheet.specs.SheetGame.{isLine, targetIn, targetOf, movesIn, movesOf, gameOf}
+use Rattle.sheet.specs.code.Steps.{Checked}
 use Rattle.sheet.specs.code.Arrays.{markOf, unmark, gridOf, targetAt, absentMark}
 use Rattle.sheet.proofs.GridLaws.{target-next, cell-at, row-at}
-use Rattle.sheet.proofs.Accepted.{Read, read-is, ranges}
+use Rattle.sheet.proofs.Accepted.{read-is, ranges}
 use Rattle.sheet.specs.declared.kinds.Kind.{Kind}
 use Rattle.sheet.specs.declared.kinds.Kind.the-variants.{Position, Invalid}
 use Rattle.sheet.specs.declared.reading.Layout.{Layout}
@@ -182,7 +184,7 @@ module _ (p u : List ℕ) (ok : movesOk p u ≡ true) (k : ℕ) (h : k < length 
 
 -- the accepted sheet
 
-module _ (s : List ℕ) (r : Read s) where
+module _ (s : List ℕ) (r : Checked s) where
   legal-target : (p x q : ℕ) → targetOf (targetsBody s) p x ≡ to q → LegalTarget (gameOf s) p x q
   unfolding gameOf targetOf isLine
   legal-target p x q e =
@@ -315,7 +317,7 @@ module _ (w : ℕ) (b : List ℕ) where
       let same : suc k - 1 ≡ k = omega arith in
       ltb-true _ _ (rw (either-second (eqb (suc k) 0) _ (ne-eqb (suc k) 0 (λ z. omega arith)), same) at e)
 
-module _ (s : List ℕ) (r : Read s) where
+module _ (s : List ℕ) (r : Checked s) where
   -- the keys of the U body rise from each line to the next
   pub moves-rise : (k : ℕ) → suc k < length (movesBody s) / 2 → keyAt (movesBody s) (2 * k) < keyAt (movesBody s) (2 * suc k)
   moves-rise k h =

@@ -7,18 +7,23 @@ use mathlib.Core.List.{List}
 use lib.ListN.{length, getD}
 use borrow.Author.Needs.{needs}
 use borrow.Author.Tests.{leb-true}
-use Rattle.theory.specs.Answer.{Answer, refused, accepted, check}
+use Rattle.theory.specs.Answer.{Answer, refused, accepted, check, onAccepted}
+use Rattle.theory.specs.Reach.{reached}
 use Rattle.theory.proofs.Answer.{check-passed}
 use Rattle.theory.proofs.Fold.{both-left, both-right, failed, passed}
-use Rattle.sheet.specs.Form.{contentsOk, placedAt, bodyOf}
+use Rattle.sheet.specs.Form.{contentsOk, placedAt, partAt, bodyOf}
 use Rattle.sheet.specs.Checks.{positionsOk, headerOk, targetsOk, movesOk, allLeave, sizeOk}
+use Rattle.sheet.specs.SheetGame.{gameOf}
+use Rattle.sheet.specs.code.Steps.{linesAnswer, Headed, Checked}
+use Rattle.sheet.proofs.Accepted.{checked-is, ranges, carries-checked}
 use Rattle.sheet.specs.Refusals.{numberOf}
-use Rattle.sheet.specs.Reading.{gameLetters, startOf, actionCount, delayOf, layoutOf, readAnswer, refusalNumber}
+use Rattle.sheet.specs.Bodies.{gameLetters, startOf, actionCount, delayOf}
+use Rattle.sheet.specs.Reading.{layoutOf, checkedAnswer, readAnswer, readingMeans, refusalNumber}
 use Rattle.sheet.specs.declared.form.Place.{Place}
 use Rattle.sheet.specs.declared.refusal.Refusal.{Refusal}
 use Rattle.sheet.specs.declared.reading.Layout.{Layout}
 use Rattle.sheet.specs.declared.reading.Reading.{Reading}
-use Rattle.sheet.specs.declared.reading.Reading.the-variants.{Refused}
+use Rattle.sheet.specs.declared.reading.Reading.the-variants.{Accepted, Refused}
 use Rattle.sheet.specs.Limits.{mostPositions}
 
 pub number-told : (r x : Refusal) (n : ℕ) → r ≡ x → n ≡ numberOf x → n ≡ numberOf r
@@ -29,89 +34,117 @@ refused-told r x n e f = f ∙ ap refusalNumber (sym e)
 
 pub ruleset numbers = (needs, number-told, refused-told)
 
-pub layout-is : (s h : List ℕ) (a b d : ℕ) (x y z w : Place) → h ≡ bodyOf 2 s 0 → a ≡ getD h 0 0 → b ≡ getD h 1 0 → d ≡ getD h 2 0
-    → x ≡ placedAt 2 s 0 → y ≡ placedAt 2 s 1 → z ≡ placedAt 2 s 2 → w ≡ placedAt 2 s 3
-    → record { start = a; actions = b; delay = d; header = x; positions = y; targets = z; moves = w } ≡ layoutOf s
+pub layout-is : (s h : List ℕ) (a b d n : ℕ) (x y z w : Place) → h ≡ bodyOf 2 s 0 → a ≡ getD h 0 0 → b ≡ getD h 1 0 → d ≡ getD h 2 0
+    → x ≡ placedAt 2 s 0 → y ≡ placedAt 2 s 1 → z ≡ placedAt 2 s 2 → w ≡ placedAt 2 s 3 → n ≡ reached (gameOf s)
+    → record { start = a; actions = b; delay = d; header = x; positions = y; targets = z; moves = w; reached = n } ≡ layoutOf s
 unfolding layoutOf startOf actionCount delayOf
-layout-is s h a b d x y z w e f g i j k l m = rw (f, g, i, e, j, k, l, m)
+layout-is s h a b d n x y z w e f g i j k l m o = rw (f, g, i, e, j, k, l, m, o)
 
-pub few-positions : (p : List ℕ) (r : Bool) → r ≡ positionsOk p → not r ≡ false → length p ≤ mostPositions
+pub ruleset laying = (needs, layout-is)
+
+-- checks 4 to 6: r is each test's result in turn, and each section adds one that passed
+
+pub few-positions : (s p : List ℕ) → p ≡ bodyOf 2 s 1 → Headed s → length p ≤ mostPositions
 unfolding positionsOk
-few-positions p r e f = leb-true _ _ (both-left _ _ (both-right _ _ (passed e f)))
+few-positions s p e h = rw e (leb-true _ _ (both-left _ _ (both-right _ _ (h .positions))))
 
--- checks 4 to 7: r is each test's result in turn, and each section adds one that passed
+module _ (s p c h : List ℕ) (a : ℕ) (r₄ : Bool) (e₄ : r₄ ≡ targetsOk p a c) (ep : p ≡ bodyOf 2 s 1) (ec : c ≡ bodyOf 2 s 2)
+    (ea : a ≡ getD h 1 0) (eh : h ≡ bodyOf 2 s 0) where
+  four : r₄ ≡ targetsOk (bodyOf 2 s 1) (actionCount s) (bodyOf 2 s 2)
+  unfolding actionCount
+  four = rw (ea, eh, ep, ec) at e₄
 
-abbrev pub lines : Layout → List ℕ → List ℕ → List ℕ → Answer Layout
-lines l p c u =
-    check (targetsOk p (l .actions) c) 4
-    (check (movesOk p u) 5 (check (allLeave p c u) 6 (check (sizeOk p (l .actions) (l .delay)) 7 (accepted l))))
-
-module _ (l : Layout) (p c u : List ℕ) (r₄ : Bool) (e₄ : r₄ ≡ targetsOk p (l .actions) c) where
-  pub refuses-4 : not r₄ ≡ true → refused 4 ≡ lines l p c u
+  pub refuses-4 : not r₄ ≡ true → refused 4 ≡ linesAnswer s
   unfolding check
-  refuses-4 x = rw (failed e₄ x)
+  refuses-4 x = rw (failed four x)
 
-  module _ (t₄ : not r₄ ≡ false) (r₅ : Bool) (e₅ : r₅ ≡ movesOk p u) where
-    pub refuses-5 : not r₅ ≡ true → refused 5 ≡ lines l p c u
+  module _ (t₄ : not r₄ ≡ false) (u : List ℕ) (eu : u ≡ bodyOf 2 s 3) (r₅ : Bool) (e₅ : r₅ ≡ movesOk p u) where
+    five : r₅ ≡ movesOk (bodyOf 2 s 1) (bodyOf 2 s 3)
+    five = rw (ep, eu) at e₅
+
+    pub refuses-5 : not r₅ ≡ true → refused 5 ≡ linesAnswer s
     unfolding check
-    refuses-5 x = rw (passed e₄ t₄, failed e₅ x)
+    refuses-5 x = rw (passed four t₄, failed five x)
 
     module _ (t₅ : not r₅ ≡ false) (r₆ : Bool) (e₆ : r₆ ≡ allLeave p c u) where
-      pub refuses-6 : not r₆ ≡ true → refused 6 ≡ lines l p c u
+      six : r₆ ≡ allLeave (bodyOf 2 s 1) (bodyOf 2 s 2) (bodyOf 2 s 3)
+      six = rw (ep, ec, eu) at e₆
+
+      pub refuses-6 : not r₆ ≡ true → refused 6 ≡ linesAnswer s
       unfolding check
-      refuses-6 x = rw (passed e₄ t₄, passed e₅ t₅, failed e₆ x)
+      refuses-6 x = rw (passed four t₄, passed five t₅, failed six x)
 
-      module _ (t₆ : not r₆ ≡ false) (r₇ : Bool) (e₇ : r₇ ≡ sizeOk p (l .actions) (l .delay)) where
-        pub refuses-7 : not r₇ ≡ true → refused 7 ≡ lines l p c u
+      module _ (t₆ : not r₆ ≡ false) where
+        pub checked : Headed s → Checked s
+        checked headed = record { headed = headed; targets = passed four t₄; moves = passed five t₅; leave = passed six t₆ }
+
+        pub accepts : (l : Layout) → l ≡ layoutOf s → accepted l ≡ linesAnswer s
         unfolding check
-        refuses-7 x = rw (passed e₄ t₄, passed e₅ t₅, passed e₆ t₆, failed e₇ x)
+        accepts l e = rw (passed four t₄, passed five t₅, passed six t₆, e)
 
-pub accepts : (l : Layout) (p c u : List ℕ) → targetsOk p (l .actions) c ≡ true → movesOk p u ≡ true → allLeave p c u ≡ true
-    → sizeOk p (l .actions) (l .delay) ≡ true → accepted l ≡ lines l p c u
-unfolding check
-accepts l p c u e f g h = rw (e, f, g, h)
+pub ruleset checks-lines = (needs, few-positions, refuses-4, refuses-5, refuses-6, checked, accepts)
 
-pub ruleset checks-lines = (needs, refuses-4, refuses-5, refuses-6, refuses-7)
-
--- the whole chain
-
-lines-of : (s : List ℕ) (l : Layout) → l ≡ layoutOf s → lines l (bodyOf 2 s 1) (bodyOf 2 s 2) (bodyOf 2 s 3)
-    ≡ check (targetsOk (bodyOf 2 s 1) (actionCount s) (bodyOf 2 s 2)) 4
-    (check (movesOk (bodyOf 2 s 1) (bodyOf 2 s 3)) 5
-    (check (allLeave (bodyOf 2 s 1) (bodyOf 2 s 2) (bodyOf 2 s 3)) 6
-    (check (sizeOk (bodyOf 2 s 1) (actionCount s) (delayOf s)) 7 (accepted (layoutOf s)))))
-unfolding layoutOf
-lines-of s l e = ap (λ (x : Layout). lines x (bodyOf 2 s 1) (bodyOf 2 s 2) (bodyOf 2 s 3)) e
+-- checks 1 to 3, and the chain of six
 
 module _ (s : List ℕ) (r₁ : Bool) (e₁ : r₁ ≡ contentsOk 2 gameLetters s) where
-  pub refuses-1 : not r₁ ≡ true → refused 1 ≡ readAnswer s
-  unfolding readAnswer check
+  pub refuses-1 : not r₁ ≡ true → refused 1 ≡ checkedAnswer s
+  unfolding checkedAnswer check
   refuses-1 x = rw (failed e₁ x)
 
   module _ (t₁ : not r₁ ≡ false) (p : List ℕ) (ep : p ≡ bodyOf 2 s 1) (r₂ : Bool) (e₂ : r₂ ≡ positionsOk p) where
     two : r₂ ≡ positionsOk (bodyOf 2 s 1)
     two = rw ep at e₂
 
-    pub refuses-2 : not r₂ ≡ true → refused 2 ≡ readAnswer s
-    unfolding readAnswer check
+    pub refuses-2 : not r₂ ≡ true → refused 2 ≡ checkedAnswer s
+    unfolding checkedAnswer check
     refuses-2 x = rw (passed e₁ t₁, failed two x)
 
     module _ (t₂ : not r₂ ≡ false) (h : List ℕ) (eh : h ≡ bodyOf 2 s 0) (r₃ : Bool) (e₃ : r₃ ≡ headerOk p h) where
       three : r₃ ≡ headerOk (bodyOf 2 s 1) (bodyOf 2 s 0)
       three = rw (ep, eh) at e₃
 
-      pub refuses-3 : not r₃ ≡ true → refused 3 ≡ readAnswer s
-      unfolding readAnswer check
+      pub refuses-3 : not r₃ ≡ true → refused 3 ≡ checkedAnswer s
+      unfolding checkedAnswer check
       refuses-3 x = rw (passed e₁ t₁, passed two t₂, failed three x)
 
-      -- the rest of the chain is the answer of the lines
-      pub reads-lines : not r₃ ≡ false → (l : Layout) (c u : List ℕ) (a : Answer Layout) → l ≡ layoutOf s → c ≡ bodyOf 2 s 2
-          → u ≡ bodyOf 2 s 3 → a ≡ lines l p c u → a ≡ readAnswer s
-      unfolding readAnswer
-      reads-lines t₃ l c u a el ec eu e =
-          (rw (ep, ec, eu) at e)
-          ∙ lines-of s l el
-          ∙ sym
-          (check-passed _ 1 _ (passed e₁ t₁) ∙ check-passed _ 2 _ (passed two t₂) ∙ check-passed _ 3 _ (passed three t₃))
+      pub headed : not r₃ ≡ false → Headed s
+      headed t₃ = record { contents = passed e₁ t₁; positions = passed two t₂; header = passed three t₃ }
 
-pub ruleset reads = (needs, few-positions, refuses-1, refuses-2, refuses-3, reads-lines)
+-- the rest of the chain is the answer of the lines
+pub reads-lines : (s : List ℕ) {a : Answer Layout} → Headed s → a ≡ linesAnswer s → a ≡ checkedAnswer s
+unfolding checkedAnswer
+reads-lines s h e =
+    e ∙ sym (check-passed _ 1 _ (h .contents) ∙ check-passed _ 2 _ (h .positions) ∙ check-passed _ 3 _ (h .header))
+
+pub ruleset reads-any = (needs, refuses-1, refuses-2, refuses-3)
+
+-- the seventh
+
+module _ (s : List ℕ) (a : Reading) (e : readingMeans a ≡ checkedAnswer s) where
+  pub stops : (x : Refusal) → a ≡ Refused x → readingMeans a ≡ readAnswer s
+  unfolding readAnswer onAccepted
+  stops x f = rw (sym e, f)
+
+  module _ (l : Layout) (f : a ≡ Accepted l) where
+    six-passed : checkedAnswer s ≡ accepted l
+    six-passed = sym e ∙ ap readingMeans f
+
+    pub few-read : (p : List ℕ) → p ≡ partAt s (l .positions) → length p ≤ mostPositions
+    few-read p g =
+        rw (g, carries-checked s l six-passed .positions-part) (ranges s (checked-is s l six-passed .0) .few-positions)
+
+    module _ (p : List ℕ) (g : p ≡ partAt s (l .positions)) (r₇ : Bool) (e₇ : r₇ ≡ sizeOk p (l .actions) (l .delay)) where
+      seven : r₇ ≡ sizeOk (bodyOf 2 s 1) (actionCount s) (delayOf s)
+      seven =
+          let c = carries-checked s l six-passed in
+          rw (g, c .positions-part, c .actions, c .delay) at e₇
+
+      pub refuses-7 : not r₇ ≡ true → refused 7 ≡ readAnswer s
+      unfolding readAnswer check onAccepted
+      refuses-7 x = rw (six-passed, failed seven x)
+
+      pub reads-whole : not r₇ ≡ false → accepted l ≡ readAnswer s
+      unfolding readAnswer check onAccepted
+      reads-whole x = rw (six-passed, passed seven x)
+
+pub ruleset reads = (needs, stops, few-read, refuses-7, reads-whole)

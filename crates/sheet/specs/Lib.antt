@@ -4,7 +4,8 @@ pub mod Form
 pub mod Refusals
 pub mod Kinds
 pub mod Checks
-pub mod Reading
+pub mod Bodies
 pub mod SheetGame
+pub mod Reading
 pub mod code
 pub mod cases

@@ -7,7 +7,7 @@ use lib.ListN.{length, getD}
 use Rattle.theory.specs.Fold.{both}
 use Rattle.theory.specs.Game.{Target, absent, to, Game}
 use Rattle.sheet.specs.Kinds.{controllerAt, safeAt}
-use Rattle.sheet.specs.Reading.{positionsBody, targetsBody, movesBody, startOf, actionCount}
+use Rattle.sheet.specs.Bodies.{positionsBody, targetsBody, movesBody, startOf, actionCount}
 
 -- line k of the C body is about position q and action x
 unfoldable pub isLine : List ℕ → ℕ → ℕ → ℕ → Bool

@@ -1,8 +1,9 @@
-// Reading a game sheet: document 01's refusals 1 to 7, in the order written.
+// Reading a game sheet: document 01's refusals 1 to 7, in the order written, and how many positions its plays come to.
 use crate::form::Place;
 use crate::form::body;
 use crate::form::byte;
 use crate::form::contents_ok;
+use crate::form::part;
 use crate::form::placed;
 use crate::form::wide;
 use crate::kinds::controller_at;
@@ -12,17 +13,15 @@ use crate::limits::MOST_DELAY;
 use crate::lines::all_leave;
 use crate::lines::moves_ok;
 use crate::lines::targets_ok;
+use crate::reach::reach;
 use crate::refusal::Refusal;
 use crate::size::size_ok;
 ghost use mathlib.Core.Path.{_≡_};
-ghost use Prim.Native.Nat.{_≤_};
-ghost use lib.ListN.{length};
-ghost use Rattle.sheet.specs.Limits.{mostPositions};
 ghost use Rattle.sheet.specs.Checks.{headerOk};
-ghost use Rattle.sheet.specs.Reading.{layoutOf, readAnswer, readingMeans, refusalNumber};
-ghost use Rattle.sheet.specs.code.Steps.{linesAnswer};
+ghost use Rattle.sheet.specs.Reading.{layoutOf, checkedAnswer, readAnswer, readingMeans, refusalNumber};
+ghost use Rattle.sheet.specs.code.Steps.{linesAnswer, Headed, Checked};
 
-// What an accepted reading carries: the start bytes and the places of the bodies.
+// What an accepted reading carries: the start bytes, the places of the bodies, and how many positions lie on plays.
 pub struct Layout {
     pub start: u8,
     pub actions: u8,
@@ -31,6 +30,7 @@ pub struct Layout {
     pub positions: Place,
     pub targets: Place,
     pub moves: Place,
+    pub reached: usize,
 }
 
 // The answer to every list of bytes.
@@ -72,8 +72,9 @@ fn header_ok(p: &[u8], h: &[u8]) -> bool
     controller_at(p, wide(h[0]))
 }
 
-// The layout that the contents and the S body give.
+// The layout of a sheet that passes checks 1 to 6.
 fn layout_at(s: &[u8]) -> Layout
+    requires { ⌜ Checked (now s) ⌝ }
     ensures { λ r. ⌜ r ≡ layoutOf (now (s .entry)) ⌝ }
 {
     let h = body(s, 0);
@@ -84,6 +85,7 @@ fn layout_at(s: &[u8]) -> Layout
     let positions = placed(s, 1);
     let targets = placed(s, 2);
     let moves = placed(s, 3);
+    let reached = reach(s);
     Layout {
         start,
         actions,
@@ -92,15 +94,19 @@ fn layout_at(s: &[u8]) -> Layout
         positions,
         targets,
         moves,
+        reached,
     }
 }
 
-// Checks 4 to 7, and acceptance.
-fn check_lines(l: Layout, p: &[u8], c: &[u8], u: &[u8]) -> Reading
-    requires { ⌜ length (now p) ≤ mostPositions ⌝ }
-    ensures { λ r. ⌜ readingMeans r ≡ linesAnswer (now (p .entry)) (now (c .entry)) (now (u .entry)) l ⌝ }
+// Checks 4 to 6, and acceptance.
+fn check_lines(s: &[u8]) -> Reading
+    requires { ⌜ Headed (now s) ⌝ }
+    ensures { λ r. ⌜ readingMeans r ≡ linesAnswer (now (s .entry)) ⌝ }
 {
-    if !targets_ok(p, l.actions, c) {
+    let p = body(s, 1);
+    let c = body(s, 2);
+    let u = body(s, 3);
+    if !targets_ok(p, byte(body(s, 0), 1), c) {
         return Reading::Refused(Refusal::Targets);
     }
     if !moves_ok(p, u) {
@@ -109,15 +115,12 @@ fn check_lines(l: Layout, p: &[u8], c: &[u8], u: &[u8]) -> Reading
     if !all_leave(p, c, u) {
         return Reading::Refused(Refusal::Stuck);
     }
-    if !size_ok(p, l.actions, l.delay) {
-        return Reading::Refused(Refusal::Size);
-    }
-    Reading::Accepted(l)
+    Reading::Accepted(layout_at(s))
 }
 
-// Reading a game sheet: the seven checks in the order written.
-pub fn read(sheet: &[u8]) -> Reading
-    ensures { λ r. ⌜ readingMeans r ≡ readAnswer (now (sheet .entry)) ⌝ }
+// Reading a game sheet of any size: the first six checks in the order written.
+pub fn read_any(sheet: &[u8]) -> Reading
+    ensures { λ r. ⌜ readingMeans r ≡ checkedAnswer (now (sheet .entry)) ⌝ }
 {
     if !contents_ok(sheet, b"SPCU") {
         return Reading::Refused(Refusal::Contents);
@@ -129,5 +132,19 @@ pub fn read(sheet: &[u8]) -> Reading
     if !header_ok(p, body(sheet, 0)) {
         return Reading::Refused(Refusal::Header);
     }
-    check_lines(layout_at(sheet), p, body(sheet, 2), body(sheet, 3))
+    check_lines(sheet)
+}
+
+// Reading a game sheet: the six checks, and the seventh.
+pub fn read(sheet: &[u8]) -> Reading
+    ensures { λ r. ⌜ readingMeans r ≡ readAnswer (now (sheet .entry)) ⌝ }
+{
+    let reading = read_any(sheet);
+    let Reading::Accepted(l) = reading else {
+        return reading;
+    };
+    if !size_ok(part(sheet, l.positions), l.actions, l.delay) {
+        return Reading::Refused(Refusal::Size);
+    }
+    reading
 }

@@ -16,7 +16,8 @@ use Rattle.theory.specs.Delay.{initialWords, arena, goodWith, flags, flagBy}
 use Rattle.theory.proofs.Fold.{same-test, tabulate-zero, tabulate-same, length-tabulate}
 use Rattle.theory.proofs.Tables.{good-more}
 use Rattle.sheet.specs.Form.{partAt}
-use Rattle.sheet.specs.Reading.{positionsBody, startOf, delayOf, readAnswer}
+use Rattle.sheet.specs.Bodies.{positionsBody, startOf, delayOf}
+use Rattle.sheet.specs.Reading.{readAnswer}
 use Rattle.sheet.specs.Reading as reading
 use Rattle.sheet.specs.SheetGame.{gameOf}
 use Rattle.sheet.specs.code.Arrays.{gridOf, viewOf, firstsOf, bodiesGame}

@@ -12,9 +12,10 @@ use borrow.Author.Tests.{eq-eqb}
 use Rattle.theory.specs.Game.{Legal}
 use Rattle.theory.proofs.Fold.{bool, not-both, same?, below?}
 use Rattle.sheet.specs.SheetGame.{movesIn, movesOf, gameOf}
-use Rattle.sheet.specs.Reading.{movesBody}
+use Rattle.sheet.specs.Bodies.{movesBody}
 use Rattle.sheet.specs.code.Arrays.{viewOf, toAt, lineCount}
-use Rattle.sheet.proofs.Accepted.{Read, ranges}
+use Rattle.sheet.specs.code.Steps.{Checked}
+use Rattle.sheet.proofs.Accepted.{ranges}
 use Rattle.sheet.proofs.Legality.{move-of}
 use Rattle.walk.specs.declared.level.Level.{Level}
 use Rattle.walk.specs.code.Levels.{Room, levelAt}
@@ -44,7 +45,7 @@ line-in u i (suc n) k l h =
     (same? i k)))
     (bool (eqb (getD u (2 * i) 0) (getD u (2 * k) 0)))
 
-pub sheet-lines : (s : List ℕ) → Read s → Lines (gameOf s) (movesBody s)
+pub sheet-lines : (s : List ℕ) → Checked s → Lines (gameOf s) (movesBody s)
 unfolding gameOf movesOf toAt
 sheet-lines s r =
     let f = ranges s r .few-moves in

@@ -23,7 +23,8 @@ use Rattle.theory.proofs.Monotone.{answer-least}
 use Rattle.sheet.specs.Form.{partAt}
 use Rattle.sheet.specs.Checks.{nodesOf}
 use Rattle.sheet.specs.Refusals.{numberOf}
-use Rattle.sheet.specs.Reading.{readAnswer, delayOf, refusalNumber, positionsBody}
+use Rattle.sheet.specs.Bodies.{delayOf, positionsBody}
+use Rattle.sheet.specs.Reading.{readAnswer, refusalNumber}
 use Rattle.sheet.specs.Reading as reading
 use Rattle.sheet.specs.SheetGame.{gameOf}
 use Rattle.sheet.specs.code.Arrays.{gridOf, viewOf, firstsOf, bodiesGame}
@@ -32,7 +33,7 @@ use Rattle.sheet.specs.declared.refusal.Refusal.the-variants.{Buffers}
 use Rattle.sheet.specs.declared.reading.Layout.{Layout}
 use Rattle.sheet.specs.declared.reading.Reading.{Reading}
 use Rattle.sheet.specs.declared.reading.Reading.the-variants.{Accepted, Refused}
-use Rattle.sheet.proofs.Accepted.{read-is, ranges, carries, arena-nodes}
+use Rattle.sheet.proofs.Accepted.{read-is, ranges, few-nodes, carries, arena-nodes}
 use Rattle.sheet.proofs.Legality.{legal-game}
 use Rattle.walk.specs.declared.level.Level.{Level}
 use Rattle.walk.specs.code.Levels.{arenaOf}
@@ -244,7 +245,7 @@ module _ (s : List ℕ) (rd : Reading) (e : reading.readingMeans rd ≡ readAnsw
           few-positions = r .few-positions;
           some-action = r .some-action;
           few-actions = r .few-actions;
-          few-nodes = r .few-nodes;
+          few-nodes = few-nodes s l answered;
         })
 
     pub game-read : (c u : List ℕ) → c ≡ partAt s (l .targets) → u ≡ partAt s (l .moves)

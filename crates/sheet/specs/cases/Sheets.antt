@@ -42,9 +42,9 @@ lines end from (suc n) = from ∷ 0 ∷ end ∷ lines end (suc from) n
 unfoldable pub star : ℕ → ℕ → List ℕ
 star n d = sheetWith (0 ∷ 8 ∷ d ∷ []) (replicate n 0 ++ (2 ∷ [])) (lines n 0 n) (n ∷ 0 ∷ [])
 
--- what a reading of a sheet with these numbers carries: the start bytes and where P, C and U lie
-unfoldable pub layout : ℕ → ℕ → ℕ → ℕ → ℕ → ℕ → Layout
-layout start actions delay p c u =
+-- what a reading of a sheet with these numbers carries: the start bytes, where P, C and U lie, and how many positions lie on plays
+unfoldable pub layout : ℕ → ℕ → ℕ → ℕ → ℕ → ℕ → ℕ → Layout
+layout start actions delay p c u reached =
     record {
       start = start;
       actions = actions;
@@ -53,6 +53,7 @@ layout start actions delay p c u =
       positions = record { at = 23; size = p };
       targets = record { at = 23 + p; size = c };
       moves = record { at = 23 + p + c; size = u };
+      reached = reached;
     }
 
 unfoldable pub right : List ℕ → Layout → Case
@@ -63,9 +64,13 @@ wrong n s = record { sheet = s; answer = refused n }
 
 unfoldable pub cases : List Case
 cases =
-    right guessBytes (layout 0 2 1 4 12 6)
-    ∷ right (guess 0 1) (layout 0 2 1 4 12 6)
-    ∷ right (loop 6) (layout 0 1 6 2 3 2)
+    right guessBytes (layout 0 2 1 4 12 6 4)
+    ∷ right (guess 0 1) (layout 0 2 1 4 12 6 4)
+    ∷ right (loop 6) (layout 0 1 6 2 3 2 2)
+    -- W-201: "its moves 0 1 3 and 2 1 left out"; the only way on passes an unsafe position; one is reached by the last command alone
+    ∷ right (sheetWith (0 ∷ 2 ∷ 1 ∷ []) (0 ∷ 0 ∷ 2 ∷ 3 ∷ []) (0 ∷ 0 ∷ 2 ∷ 1 ∷ 0 ∷ 3 ∷ 1 ∷ 1 ∷ 2 ∷ []) (2 ∷ 0 ∷ 3 ∷ 0 ∷ [])) (layout 0 2 1 4 9 4 2)
+    ∷ right (sheetWith (0 ∷ 1 ∷ 0 ∷ []) (0 ∷ 0 ∷ 3 ∷ 2 ∷ []) (0 ∷ 0 ∷ 2 ∷ 1 ∷ 0 ∷ 3 ∷ []) (2 ∷ 1 ∷ 3 ∷ 1 ∷ [])) (layout 0 1 0 4 6 4 4)
+    ∷ right (sheetWith (0 ∷ 8 ∷ 0 ∷ []) (0 ∷ 2 ∷ 2 ∷ []) (0 ∷ 0 ∷ 1 ∷ 0 ∷ 7 ∷ 2 ∷ []) (1 ∷ 0 ∷ 2 ∷ 0 ∷ [])) (layout 0 8 0 3 6 4 3)
     -- 1: short, letters, first offset, a gap, an offset 256 too high, an end before and after the sheet's
     ∷ wrong 1 []
     ∷ wrong 1 (take 19 guessBytes)
@@ -107,7 +112,7 @@ cases =
     ∷ wrong 6 (guessC (0 ∷ 0 ∷ 2 ∷ []))
     ∷ wrong 6 (guessU (2 ∷ 0 ∷ []))
     -- 7: A 8, lag 6: 32 positions pass and 33 don't
-    ∷ right (star 31 6) (layout 0 8 6 32 93 2)
+    ∷ right (star 31 6) (layout 0 8 6 32 93 2 2)
     ∷ wrong 7 (star 32 6)
     -- two reasons: the first counts. 1 and 2, 2 and 3, 3 and 4, 4 and 5, 5 and 6, 6 and 7
     ∷ wrong 1 (guessP (0 ∷ 0 ∷ 2 ∷ 4 ∷ []) ++ (0 ∷ []))

@@ -8,7 +8,8 @@ use Rattle.theory.specs.Fold.{tabulate}
 use Rattle.theory.specs.Answer.{Answer, refused, accepted}
 use Rattle.theory.specs.Game.{Game}
 use Rattle.theory.specs.Delay.{initialWords, goodWith, flagBy}
-use Rattle.sheet.specs.Reading.{readAnswer, delayOf}
+use Rattle.sheet.specs.Bodies.{delayOf}
+use Rattle.sheet.specs.Reading.{readAnswer}
 use Rattle.sheet.specs.SheetGame.{gameOf}
 use Rattle.sheet.specs.declared.reading.Layout.{Layout}
 use Rattle.theory.specs.Buffer.{over}

@@ -6,6 +6,5 @@ use Rattle.sheet.proofs.reading.read.Tie as tie
 pub read-spec : {M : Type 1} → statement M
 read-spec =
     tie.close
-    (tie.spec (λ c. search reads) (λ c κs. search reads) (λ c. search reads) (λ c κs. search reads)
-    (λ c κs. search reads) (λ c. search reads) (λ c κs. search reads) (λ c κs. search reads) (λ c. search reads)
-    (λ c κs. search reads) (λ c κs. search reads) (λ c κs. search reads) (λ c κs. search reads) (λ c. search reads))
+    (tie.spec (λ c κs. search reads) (λ c. search reads) (λ c. search reads) (λ c. search reads)
+    (λ c κs. search reads) (λ c κs. search reads) (λ c. search reads) (λ c. search reads))
