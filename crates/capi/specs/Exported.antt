@@ -9,7 +9,7 @@ use Rattle.sheet.specs.Form.{placedAt}
 use Rattle.sheet.specs.Reading.{readAnswer}
 use Rattle.solver.specs.Solving.{solving}
 use Rattle.table.specs.TableSheet.{tableAnswer}
-use Rattle.maker.specs.Making.{Measured, measured, making}
+use Rattle.maker.specs.Making.{madeAnswer}
 
 -- by an answer: g of a refusal's number, f of an accepted value
 unfoldable pub byAnswer : {A B : Type 0} → (ℕ → B) → (A → B) → Answer A → B
@@ -37,6 +37,10 @@ placesAfter s places =
     ∷ l .targets .at ∷ l .targets .size ∷ l .moves .at ∷ l .moves .size ∷ [])
     (readAnswer s) places
 
+-- "the number of positions that lie on some play from the start", as reading, solving and making have it
+abbrev pub readReached : List ℕ → ℕ → ℕ
+readReached s before = written (λ l. l .reached) (readAnswer s) before
+
 -- the losing delay; 255, LQ_WINS, where the asked one wins
 abbrev pub losingNumber : Verdict → ℕ
 losingNumber wins = 255
@@ -45,15 +49,18 @@ losingNumber (losing m) = m
 abbrev pub losingAfter : List ℕ → List ℕ → List ℕ → ℕ → ℕ
 losingAfter s masks ranks before = written (λ a. losingNumber (a .verdict)) (solving s masks ranks) before
 
--- making: the answer with the made sheet's length, what is losing and how long the sheet is
-abbrev pub madeAnswer : List ℕ → List ℕ → List ℕ → List ℕ → Answer Measured
-madeAnswer s masks ranks out = measured (making s masks ranks out)
+abbrev pub solvedReached : List ℕ → List ℕ → List ℕ → ℕ → ℕ
+solvedReached s masks ranks before = written (λ a. a .layout .reached) (solving s masks ranks) before
 
+-- making: what is losing, how long the made sheet is, and the positions reached
 abbrev pub madeLosing : List ℕ → List ℕ → List ℕ → List ℕ → ℕ → ℕ
 madeLosing s masks ranks out before = written (λ a. losingNumber (a .verdict)) (madeAnswer s masks ranks out) before
 
 abbrev pub madeSize : List ℕ → List ℕ → List ℕ → List ℕ → ℕ → ℕ
 madeSize s masks ranks out before = written (λ a. a .size) (madeAnswer s masks ranks out) before
+
+abbrev pub madeReached : List ℕ → List ℕ → List ℕ → List ℕ → ℕ → ℕ
+madeReached s masks ranks out before = written (λ a. a .reached) (madeAnswer s masks ranks out) before
 
 -- reading a table sheet: offset and length of the T body
 abbrev pub placeAfter : List ℕ → List ℕ → List ℕ

@@ -9,16 +9,22 @@ use solver::solve::solve;
 ghost use mathlib.Core.Path.{_≡_};
 ghost use Rattle.sheet.specs.Reading.{readAnswer};
 ghost use Rattle.solver.specs.Solving.{solving, masksSolved, ranksSolved};
-ghost use Rattle.capi.specs.Exported.{numberFor, headerAfter, placesAfter, losingAfter};
+ghost use Rattle.capi.specs.Exported.{numberFor, headerAfter, placesAfter, readReached, losingAfter, solvedReached};
 
 // What stands for the losing delay where the asked one wins (LQ_WINS).
 pub(crate) const WINS: u8 = 255;
 
 #[no_mangle]
-pub extern "C" fn lq_read(sheet: &[u8], header: &mut [u8; 3], places: &mut [usize; 8]) -> u8
+pub extern "C" fn lq_read(
+    sheet: &[u8],
+    header: &mut [u8; 3],
+    places: &mut [usize; 8],
+    reached: &mut usize,
+) -> u8
     ensures number { λ r. ⌜ r ≡ numberFor (readAnswer (now (sheet .entry))) ⌝ }
     ensures header { λ r. ⌜ now (header .exit) ≡ headerAfter (now (sheet .entry)) (now (header .entry)) ⌝ }
     ensures places { λ r. ⌜ now (places .exit) ≡ placesAfter (now (sheet .entry)) (now (places .entry)) ⌝ }
+    ensures reached { λ r. ⌜ now (reached .exit) ≡ readReached (now (sheet .entry)) (now (reached .entry)) ⌝ }
 {
     let reading = read(sheet);
     let Reading::Accepted(l) = reading else {
@@ -35,26 +41,37 @@ pub extern "C" fn lq_read(sheet: &[u8], header: &mut [u8; 3], places: &mut [usiz
         l.moves.at,
         l.moves.size,
     ];
+    *reached = l.reached;
     0
 }
 
 #[no_mangle]
-pub extern "C" fn lq_solve(sheet: &[u8], masks: &mut [u8], ranks: &mut [u16], losing: &mut u8) -> u8
+pub extern "C" fn lq_solve(
+    sheet: &[u8],
+    masks: &mut [u8],
+    ranks: &mut [u16],
+    losing: &mut u8,
+    reached: &mut usize,
+) -> u8
     ensures number { λ r. ⌜ r ≡ numberFor (solving (now (sheet .entry)) (now (masks .entry)) (now (ranks .entry))) ⌝ }
     ensures masks { λ r. ⌜ now (masks .exit) ≡ masksSolved (now (sheet .entry)) (now (masks .entry)) (now (ranks .entry)) ⌝ }
     ensures ranks { λ r. ⌜ now (ranks .exit) ≡ ranksSolved (now (sheet .entry)) (now (masks .entry)) (now (ranks .entry)) ⌝ }
     ensures losing { λ r. ⌜ now (losing .exit)
         ≡ losingAfter (now (sheet .entry)) (now (masks .entry)) (now (ranks .entry)) (now (losing .entry)) ⌝ }
+    ensures reached { λ r. ⌜ now (reached .exit)
+        ≡ solvedReached (now (sheet .entry)) (now (masks .entry)) (now (ranks .entry)) (now (reached .entry)) ⌝ }
 {
     let solution = solve(sheet, masks, ranks);
     match solution {
         Solution::Refused(number) => number,
-        Solution::Winning(_) => {
+        Solution::Winning(l) => {
             *losing = WINS;
+            *reached = l.reached;
             0
         }
-        Solution::Losing(m, _) => {
+        Solution::Losing(m, l) => {
             *losing = m;
+            *reached = l.reached;
             0
         }
     }

@@ -6,9 +6,9 @@ use sheet::form::placed;
 use table::reading::TableReading;
 use table::reading::read;
 ghost use mathlib.Core.Path.{_≡_};
-ghost use Rattle.maker.specs.Making.{masksMade, ranksMade, outputMade};
+ghost use Rattle.maker.specs.Making.{madeAnswer, masksMade, ranksMade, outputMade};
 ghost use Rattle.table.specs.TableSheet.{tableAnswer};
-ghost use Rattle.capi.specs.Exported.{numberFor, madeAnswer, madeSize, madeLosing, placeAfter};
+ghost use Rattle.capi.specs.Exported.{numberFor, madeSize, madeLosing, madeReached, placeAfter};
 
 #[no_mangle]
 pub extern "C" fn lq_make(
@@ -18,6 +18,7 @@ pub extern "C" fn lq_make(
     out: &mut [u8],
     size: &mut usize,
     losing: &mut u8,
+    reached: &mut usize,
 ) -> u8
     ensures number { λ r. ⌜ r
         ≡ numberFor (madeAnswer (now (sheet .entry)) (now (masks .entry)) (now (ranks .entry)) (now (out .entry))) ⌝ }
@@ -31,18 +32,29 @@ pub extern "C" fn lq_make(
         ≡ madeSize (now (sheet .entry)) (now (masks .entry)) (now (ranks .entry)) (now (out .entry)) (now (size .entry)) ⌝ }
     ensures losing { λ r. ⌜ now (losing .exit)
         ≡ madeLosing (now (sheet .entry)) (now (masks .entry)) (now (ranks .entry)) (now (out .entry)) (now (losing .entry)) ⌝ }
+    ensures reached { λ r. ⌜ now (reached .exit)
+        ≡ madeReached (now (sheet .entry)) (now (masks .entry)) (now (ranks .entry)) (now (out .entry)) (now (reached .entry)) ⌝ }
 {
     let making = make(sheet, masks, ranks, out);
     match making {
         Making::Refused(reason) => reason,
-        Making::Winning(n) => {
-            *size = n;
+        Making::Winning {
+            size: length,
+            reached: number,
+        } => {
+            *size = length;
             *losing = WINS;
+            *reached = number;
             0
         }
-        Making::Losing(m, n) => {
-            *size = n;
-            *losing = m;
+        Making::Losing {
+            delay,
+            size: length,
+            reached: number,
+        } => {
+            *size = length;
+            *losing = delay;
+            *reached = number;
             0
         }
     }

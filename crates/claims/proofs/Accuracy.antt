@@ -7,7 +7,7 @@ use Rattle.theory.specs.Answer.{accepted}
 use Rattle.theory.specs.Game.{Game, Legal}
 use Rattle.theory.specs.Play.{Rule, IsRule}
 use Rattle.theory.proofs.OurTable.{ours-fits, ours-judged}
-use Rattle.sheet.specs.Reading.{delayOf}
+use Rattle.sheet.specs.Bodies.{delayOf}
 use Rattle.sheet.specs.SheetGame.{gameOf}
 use Rattle.table.specs.TableSheet.{decode}
 use Rattle.maker.specs.Making.{won, makeAnswer}

@@ -19,7 +19,8 @@ use Rattle.theory.proofs.Region.{kept-is, region-closed, region-largest, length
 use Rattle.theory.proofs.Tables.{step-legal}
 use Rattle.theory.proofs.OurTable.{allows-keeps}
 use Rattle.theory.proofs.Monotone.{answer-iff, answer-least}
-use Rattle.sheet.specs.Reading.{delayOf, readAnswer}
+use Rattle.sheet.specs.Bodies.{delayOf}
+use Rattle.sheet.specs.Reading.{readAnswer}
 use Rattle.sheet.specs.SheetGame.{gameOf}
 use Rattle.sheet.specs.declared.reading.Layout.{Layout}
 use Rattle.sheet.proofs.Legality.{legal-game}

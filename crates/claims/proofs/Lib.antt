@@ -1,5 +1,6 @@
 -- The theorems: demand 2 and demand 3 over bytes, and the starred cases.
 pub mod Demand2
+pub mod Reached
 pub mod Accuracy
 pub mod Computing
 pub mod Cases

@@ -12,7 +12,7 @@ use Rattle.theory.specs.Strategy.{Winnable}
 use Rattle.theory.specs.Rounds.{Closed, fell, ranksAfter, finalRanks, masks, kept}
 use Rattle.theory.specs.Delay.{wins, losing, arena}
 use Rattle.theory.specs.Table.{bit}
-use Rattle.sheet.specs.Reading.{delayOf}
+use Rattle.sheet.specs.Bodies.{delayOf}
 use Rattle.sheet.specs.SheetGame.{gameOf}
 use Rattle.solver.specs.Solving.{Solved, solvedDelay, masksLeft, ranksLeft}
 

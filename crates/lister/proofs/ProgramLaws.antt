@@ -1,4 +1,4 @@
--- What the whole program prints: with buffers of 16,384 entries solving never refuses for room, and the text has at most 463,911
+-- What the whole program prints: with buffers of 16,384 entries solving never refuses for room, and the text has at most 463,923
 -- bytes. Assumes nothing.
 use Prim.Native.Nat.{ℕ, _*_, _/_, _^_, _≤_, _<_}
 use mathlib.Core.Path.{_≡_, refl, ap, _∙_}
@@ -14,15 +14,18 @@ use Rattle.theory.specs.Answer.{Answer, refused, accepted, check, onAccepted}
 use Rattle.theory.specs.Strategy.{initialLength}
 use Rattle.theory.specs.Rounds.{masks, finalRanks}
 use Rattle.theory.specs.Delay.{Verdict, wins, losing, arena, words, flags, answer}
+use Rattle.theory.specs.Reach.{reached}
 use Rattle.theory.proofs.Fold.{bool, both-true}
 use Rattle.theory.proofs.Answer.{check-passed}
 use Rattle.theory.proofs.Rounds.{final-length, final-le}
 use Rattle.theory.proofs.Region.{length-masks}
+use Rattle.theory.proofs.Reach.{reached-few}
 use Rattle.sheet.specs.Limits.{mostPositions, mostActions, mostDelay, mostNodes, mostWords}
-use Rattle.sheet.specs.Reading.{readAnswer, delayOf}
+use Rattle.sheet.specs.Bodies.{delayOf}
+use Rattle.sheet.specs.Reading.{checkedAnswer, readAnswer}
 use Rattle.sheet.specs.SheetGame.{gameOf}
 use Rattle.sheet.specs.declared.reading.Layout.{Layout}
-use Rattle.sheet.proofs.Accepted.{Ranges, read-is, ranges, arena-nodes}
+use Rattle.sheet.proofs.Accepted.{Ranges, read-is, ranges, few-nodes, arena-nodes}
 use Rattle.text.specs.Page.{Page, page, puts}
 use Rattle.text.proofs.Page.{written}
 use Rattle.text.proofs.Lines.{length-winning}
@@ -40,7 +43,7 @@ module _ (s : List ℕ) (m n : ℕ) (masks-room : mostNodes ≤ m) (ranks-room :
   unfolding solveAnswer onAccepted solvedText readText
   solved-read (refused k) e = rw e
   solved-read (accepted l) e =
-      let few : arena (gameOf s) (delayOf s) .nodes ≤ mostNodes = rw (arena-nodes s (delayOf s)) (ranges s (read-is s l e .0) .few-nodes) in
+      let few : arena (gameOf s) (delayOf s) .nodes ≤ mostNodes = rw (arena-nodes s (delayOf s)) (few-nodes s l e) in
       let room = both-true _ _ (le-leb (arena (gameOf s) (delayOf s) .nodes) m (omega arith)) (le-leb (arena (gameOf s) (delayOf s) .nodes) n (omega arith)) in
       rw (e, check-passed _ 8 _ room)
 
@@ -59,34 +62,42 @@ unfolding check
 small-check true n rest h g = g
 small-check false n rest h g = h
 
+small-on : (a : Answer Layout) (f : Layout → Answer Layout) → SmallRefusal a → ((l : Layout) → SmallRefusal (f l))
+    → SmallRefusal (onAccepted a f)
+unfolding onAccepted
+small-on (refused n) f h g = h
+small-on (accepted l) f h g = g l
+
 small-refusal : (s : List ℕ) → SmallRefusal (readAnswer s)
-unfolding readAnswer
+unfolding readAnswer checkedAnswer
 small-refusal s =
-    small-check _ 1 _ (omega arith)
+    small-on (checkedAnswer s) _
+    (small-check _ 1 _ (omega arith)
     (small-check _ 2 _ (omega arith)
     (small-check _ 3 _ (omega arith)
-    (small-check _ 4 _ (omega arith)
-    (small-check _ 5 _ (omega arith) (small-check _ 6 _ (omega arith) (small-check _ 7 _ (omega arith) (omega arith)))))))
+    (small-check _ 4 _ (omega arith) (small-check _ 5 _ (omega arith) (small-check _ 6 _ (omega arith) (omega arith)))))))
+    (λ l. small-check _ 7 (accepted l) (omega arith) (omega arith))
 
 -- the sizes of an accepted sheet's text
 
 abbrev pub largestText : ℕ
-largestText = 463911
+largestText = 463923
 
-won-size : (d p a : ℕ) (fs ms : List ℕ) → d ≤ mostDelay → p ≤ mostPositions → 0 < a → a ≤ mostActions → length fs ≤ mostWords → length ms ≤ mostPositions * a ^ (d / 2)
-    → length ms ≤ mostNodes → length (wonText d p a fs ms) ≤ largestText
+won-size : (d p a n : ℕ) (fs ms : List ℕ) → d ≤ mostDelay → p ≤ mostPositions → 0 < a → a ≤ mostActions → n ≤ mostPositions
+    → length fs ≤ mostWords → length ms ≤ mostPositions * a ^ (d / 2) → length ms ≤ mostNodes → length (wonText d p a n fs ms) ≤ largestText
 unfolding wonText
-won-size d p a fs ms f g h i j k l =
-    let head = head-size d p a (omega arith) g (omega arith) in
+won-size d p a n fs ms f g h i e j k l =
+    let head = head-size d p a n (omega arith) g (omega arith) e in
     let starts = starts-size a (initialLength d) fs (omega arith) j in
     let allows = allows-size a (d / 2) ms h (omega arith) k l i in
     simp length-append (omega (arith, length-winning, head, starts, allows))
 
-lost-size : (d p a m : ℕ) (rs : List ℕ) → d ≤ mostDelay → p ≤ mostPositions → 0 < a → a ≤ mostActions → m ≤ mostDelay → length rs ≤ mostPositions * a ^ (m / 2)
-    → length rs ≤ mostNodes → ((k : ℕ) → k < length rs → getD rs k 0 < 65536) → length (lostText d p a m rs) ≤ largestText
+lost-size : (d p a n m : ℕ) (rs : List ℕ) → d ≤ mostDelay → p ≤ mostPositions → 0 < a → a ≤ mostActions → n ≤ mostPositions → m ≤ mostDelay
+    → length rs ≤ mostPositions * a ^ (m / 2) → length rs ≤ mostNodes → ((k : ℕ) → k < length rs → getD rs k 0 < 65536)
+    → length (lostText d p a n m rs) ≤ largestText
 unfolding lostText
-lost-size d p a m rs f g h i j k l b =
-    let head = head-size d p a (omega arith) g (omega arith) in
+lost-size d p a n m rs f g h i e j k l b =
+    let head = head-size d p a n (omega arith) g (omega arith) e in
     let line = losing-size m (omega arith) in
     let ranks = ranks-size a (m / 2) rs h (omega arith) k l b in
     simp length-append (omega (arith, head, line, ranks))
@@ -107,6 +118,9 @@ module _ (s : List ℕ) (l : Layout) (e : readAnswer s ≡ accepted l) where
   unfolding gameOf
   few-actions = r .few-actions
 
+  few-reached : reached (gameOf s) ≤ mostPositions
+  few-reached = le-trans (reached-few (gameOf s)) few-positions
+
   nodes-words : (m : ℕ) → arena (gameOf s) m .nodes ≤ mostPositions * gameOf s .actions ^ (m / 2)
   unfolding arena words
   nodes-words m = mul-le-mul-right (gameOf s .actions ^ (m / 2)) few-positions
@@ -115,23 +129,23 @@ module _ (s : List ℕ) (l : Layout) (e : readAnswer s ≡ accepted l) where
   unfolding arena words
   nodes-fewer m h = mul-le-mul-left (gameOf s .positions) (pow-le-pow-right some-action (omega arith))
 
-  few-nodes : (m : ℕ) → m ≤ delayOf s → arena (gameOf s) m .nodes ≤ mostNodes
-  few-nodes m h =
-      let asked : arena (gameOf s) (delayOf s) .nodes ≤ mostNodes = rw (arena-nodes s (delayOf s)) (r .few-nodes) in
+  nodes-few : (m : ℕ) → m ≤ delayOf s → arena (gameOf s) m .nodes ≤ mostNodes
+  nodes-few m h =
+      let asked : arena (gameOf s) (delayOf s) .nodes ≤ mostNodes = rw (arena-nodes s (delayOf s)) (few-nodes s l e) in
       le-trans (nodes-fewer m h) asked
 
   game-size : (v : Verdict) → answer (gameOf s) (delayOf s) ≡ v → length (gameText (gameOf s) (delayOf s) v) ≤ largestText
   unfolding gameText
   game-size wins q =
-      won-size (delayOf s) (gameOf s .positions) (gameOf s .actions) (flags (gameOf s) (delayOf s)) (masks (arena (gameOf s) (delayOf s)))
-      (r .short-delay) few-positions some-action few-actions (rw (flags-length s l e) (few-words s l e))
+      won-size (delayOf s) (gameOf s .positions) (gameOf s .actions) (reached (gameOf s)) (flags (gameOf s) (delayOf s)) (masks (arena (gameOf s) (delayOf s)))
+      (r .short-delay) few-positions some-action few-actions few-reached (rw (flags-length s l e) (few-words s l e))
       (rw (length-masks (arena (gameOf s) (delayOf s))) (nodes-words (delayOf s)))
-      (rw (length-masks (arena (gameOf s) (delayOf s))) (few-nodes (delayOf s) (omega arith)))
+      (rw (length-masks (arena (gameOf s) (delayOf s))) (nodes-few (delayOf s) (omega arith)))
   game-size (losing m) q =
       let h : m ≤ delayOf s = losing-within s l m e q in
-      let few : arena (gameOf s) m .nodes ≤ mostNodes = few-nodes m h in
-      lost-size (delayOf s) (gameOf s .positions) (gameOf s .actions) m (finalRanks (arena (gameOf s) m))
-      (r .short-delay) few-positions some-action few-actions (omega (arith, r .short-delay))
+      let few : arena (gameOf s) m .nodes ≤ mostNodes = nodes-few m h in
+      lost-size (delayOf s) (gameOf s .positions) (gameOf s .actions) (reached (gameOf s)) m (finalRanks (arena (gameOf s) m))
+      (r .short-delay) few-positions some-action few-actions few-reached (omega (arith, r .short-delay))
       (rw (final-length (arena (gameOf s) m)) (nodes-words m))
       (rw (final-length (arena (gameOf s) m)) few)
       (λ k g. omega (arith, final-le (arena (gameOf s) m) k))

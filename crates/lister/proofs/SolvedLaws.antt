@@ -16,7 +16,8 @@ use Rattle.theory.proofs.Monotone.{answer-least}
 use Rattle.sheet.specs.Limits.{mostActions, mostWords}
 use Rattle.sheet.specs.Checks.{nodesOf}
 use Rattle.sheet.specs.code.Steps.{powerTo}
-use Rattle.sheet.specs.Reading.{readAnswer, delayOf}
+use Rattle.sheet.specs.Bodies.{delayOf}
+use Rattle.sheet.specs.Reading.{readAnswer}
 use Rattle.sheet.specs.SheetGame.{gameOf}
 use Rattle.sheet.specs.declared.reading.Layout.{Layout}
 use Rattle.sheet.proofs.Accepted.{read-is, ranges, carries, arena-nodes}
@@ -74,12 +75,13 @@ actions-are s l e = sym (carries s l e .actions)
 
 -- equal parts give equal texts
 
-won-same : {d d′ n n′ a a′ : ℕ} {fs fs′ ms ms′ : List ℕ} → d ≡ d′ → n ≡ n′ → a ≡ a′ → fs ≡ fs′ → ms ≡ ms′
-    → wonText d n a fs ms ≡ wonText d′ n′ a′ fs′ ms′
-won-same e f g h i = cc
+won-same : {d d′ n n′ a a′ k k′ : ℕ} {fs fs′ ms ms′ : List ℕ} → d ≡ d′ → n ≡ n′ → a ≡ a′ → k ≡ k′ → fs ≡ fs′ → ms ≡ ms′
+    → wonText d n a k fs ms ≡ wonText d′ n′ a′ k′ fs′ ms′
+won-same e f g h i j = cc
 
-lost-same : {d d′ n n′ a a′ : ℕ} {rs rs′ : List ℕ} (m : ℕ) → d ≡ d′ → n ≡ n′ → a ≡ a′ → rs ≡ rs′ → lostText d n a m rs ≡ lostText d′ n′ a′ m rs′
-lost-same m e f g h = cc
+lost-same : {d d′ n n′ a a′ k k′ : ℕ} {rs rs′ : List ℕ} (m : ℕ) → d ≡ d′ → n ≡ n′ → a ≡ a′ → k ≡ k′ → rs ≡ rs′
+    → lostText d n a k m rs ≡ lostText d′ n′ a′ k′ m rs′
+lost-same m e f g h i = cc
 
 -- s was read as l, and m is the delay for which the buffers are filled
 module _ (s : List ℕ) (l : Layout) (m : ℕ) (read : readAnswer s ≡ accepted l) where
@@ -148,7 +150,7 @@ module _ (s : List ℕ) (mb rb : List ℕ) where
             rw won-answer
             (h
             ∙ ap (puts p)
-            (won-same (c .delay) (sym (positions-are s l read)) (sym (actions-are s l read)) good (rw (c .delay) at firstMasks)))
+            (won-same (c .delay) (sym (positions-are s l read)) (sym (actions-are s l read)) (c .reached) good (rw (c .delay) at firstMasks)))
 
     -- losing: they are filled for the least delay that loses
     module _ (m : ℕ) (e : r ≡ solution.Losing m x) (told : solutionMeans r ≡ solved) where
@@ -177,7 +179,7 @@ module _ (s : List ℕ) (mb rb : List ℕ) where
             let firstRanks : take n rs ≡ finalRanks (arena (gameOf s) m) =
             rw (lost-ranks rs f) (ranks-first s l m read rb n lost-nodes) in
             rw lost-answer
-            (h ∙ ap (puts p) (lost-same m (c .delay) (sym (positions-are s l read)) (sym (actions-are s l read)) firstRanks))
+            (h ∙ ap (puts p) (lost-same m (c .delay) (sym (positions-are s l read)) (sym (actions-are s l read)) (c .reached) firstRanks))
 
 -- the number of entries in a part of a buffer
 pub part-count : (n : ℕ) (xs : List ℕ) → n ≤ length xs → n ≡ length (take n xs)

@@ -15,7 +15,8 @@ use Rattle.theory.specs.Delay.{arena, flags, initialWords}
 use Rattle.theory.proofs.Buffer.{over-first, over-room}
 use Rattle.theory.proofs.Fold.{length-tabulate}
 use Rattle.sheet.specs.Limits.{mostWords}
-use Rattle.sheet.specs.Reading.{readAnswer, delayOf}
+use Rattle.sheet.specs.Bodies.{delayOf}
+use Rattle.sheet.specs.Reading.{readAnswer}
 use Rattle.sheet.specs.SheetGame.{gameOf}
 use Rattle.sheet.specs.declared.reading.Layout.{Layout}
 use Rattle.sheet.proofs.Accepted.{read-is, ranges}

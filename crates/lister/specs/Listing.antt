@@ -9,7 +9,9 @@ use Rattle.theory.specs.Strategy.{initialLength}
 use Rattle.theory.specs.Game.{Game}
 use Rattle.theory.specs.Rounds.{masks, finalRanks}
 use Rattle.theory.specs.Delay.{Verdict, wins, losing, arena, flags, answer}
-use Rattle.sheet.specs.Reading.{delayOf, readAnswer}
+use Rattle.theory.specs.Reach.{reached}
+use Rattle.sheet.specs.Bodies.{delayOf}
+use Rattle.sheet.specs.Reading.{readAnswer}
 use Rattle.sheet.specs.SheetGame.{gameOf}
 use Rattle.sheet.specs.declared.reading.Layout.{Layout}
 use Rattle.text.specs.Lines.{refusedLine, headLine, winningLine, losingLine, startLines, allowLines, rankLines}
@@ -19,19 +21,19 @@ use Rattle.solver.specs.Solving.{Solved, solveAnswer, masksLeft, ranksLeft}
 abbrev pub mostInput : ℕ
 mostInput = 16384
 
--- d, p and a: "a line of lag, positions and commands as asked"; then "a line `winning`", "a line `start` and the word for each
--- good word, and a line `pair`, position, word, `allow` and the commands for each kept pair"
-unfoldable pub wonText : ℕ → ℕ → ℕ → List ℕ → List ℕ → List ℕ
-wonText d p a flags masks =
-    headLine d p a ++ (winningLine ++ (startLines a (initialLength d) flags ++ allowLines a (d / 2) masks))
+-- d, p and a: "a line of lag, positions and commands as asked"; it "ends with ` reached N`", n; then "a line `winning`", "a line `start`
+-- and the word for each good word, and a line `pair`, position, word, `allow` and the commands for each kept pair"
+unfoldable pub wonText : ℕ → ℕ → ℕ → ℕ → List ℕ → List ℕ → List ℕ
+wonText d p a n flags masks =
+    headLine d p a n ++ (winningLine ++ (startLines a (initialLength d) flags ++ allowLines a (d / 2) masks))
 
 -- ".. or `losing` and m", "a line `pair`, position, word, `rank` and the round for each fallen pair at lag m"
-unfoldable pub lostText : ℕ → ℕ → ℕ → ℕ → List ℕ → List ℕ
-lostText d p a m ranks = headLine d p a ++ (losingLine m ++ rankLines a (m / 2) ranks)
+unfoldable pub lostText : ℕ → ℕ → ℕ → ℕ → ℕ → List ℕ → List ℕ
+lostText d p a n m ranks = headLine d p a n ++ (losingLine m ++ rankLines a (m / 2) ranks)
 
 unfoldable pub gameText : Game → ℕ → Verdict → List ℕ
-gameText G d wins = wonText d (G .positions) (G .actions) (flags G d) (masks (arena G d))
-gameText G d (losing m) = lostText d (G .positions) (G .actions) m (finalRanks (arena G m))
+gameText G d wins = wonText d (G .positions) (G .actions) (reached G) (flags G d) (masks (arena G d))
+gameText G d (losing m) = lostText d (G .positions) (G .actions) (reached G) m (finalRanks (arena G m))
 
 -- "A refusal prints `refused` and its number. Otherwise: .."
 unfoldable pub readText : List ℕ → Answer Layout → List ℕ

@@ -31,7 +31,7 @@ ghost use Rattle.lister.specs.code.Parts.{flagsIn, startsBy, wonBy, lost
 // The bytes of the longest sheet that the program takes.
 pub const MOST_INPUT: usize = 16384;
 
-// The largest text has 463,911 bytes (proofs/ProgramLaws.antt, fits).
+// The largest text has 463,923 bytes (proofs/ProgramLaws.antt, fits).
 pub const MOST_TEXT: usize = 464000;
 
 // A line for each good first word by the ranks at the asked delay, with a lent buffer for the flags.
@@ -71,7 +71,7 @@ fn put_won(out: &mut [u8], sheet: &[u8], l: Layout, masks: &[u8], ranks: &[u16])
 {
     let delay = wide(l.delay);
     let actions = wide(l.actions);
-    let a = put_head(out, 0, delay, l.positions.size, actions);
+    let a = put_head(out, 0, delay, l.positions.size, actions, l.reached);
     let b = put_winning(out, a);
     let c = put_words(out, b, sheet, l, ranks);
     put_allows(out, c, actions, delay / 2, masks)
@@ -82,7 +82,7 @@ fn put_lost(out: &mut [u8], l: Layout, m: u8, ranks: &[u16]) -> usize
 {
     let actions = wide(l.actions);
     let delay = wide(m);
-    let a = put_head(out, 0, wide(l.delay), l.positions.size, actions);
+    let a = put_head(out, 0, wide(l.delay), l.positions.size, actions, l.reached);
     let b = put_losing(out, a, delay);
     put_ranks(out, b, actions, delay / 2, ranks)
 }

@@ -16,20 +16,21 @@ use Rattle.maker.specs.code.Checked.{Small, nodesAt, wordsAt, shortOf, R
 use Rattle.maker.proofs.LayoutLaws.{small}
 use Rattle.maker.proofs.RoomLaws.{Says, short-says}
 
--- the contract for an answer and what the buffers hold after it; solving leaves M₂ and R₂ in them
-abbrev pub Meets : Answer Made → Answer Measured → List ℕ → List ℕ → List ℕ → List ℕ → List ℕ → List ℕ → List ℕ → List ℕ → Type 0
-Meets a r M M₂ M′ R R₂ R′ O O′ = (r ≡ measured a) × ((M′ ≡ ifMade a M M₂) × ((R′ ≡ ifMade a R R₂) × (O′ ≡ outputAfter a O)))
+-- the contract for an answer, the number k that it hands on, and what the buffers hold after it; solving leaves M₂ and R₂ in them
+abbrev pub Meets : ℕ → Answer Made → Answer Measured → List ℕ → List ℕ → List ℕ → List ℕ → List ℕ → List ℕ → List ℕ → List ℕ → Type 0
+Meets k a r M M₂ M′ R R₂ R′ O O′ = (r ≡ measured k a) × ((M′ ≡ ifMade a M M₂) × ((R′ ≡ ifMade a R R₂) × (O′ ≡ outputAfter a O)))
 
 -- a refusal alters nothing
-pub refuses : (a : Answer Made) (n : ℕ) → a ≡ refused n → (x : ℕ) → x ≡ n → (M M₂ R R₂ O : List ℕ) → Meets a (refused x) M M₂ M R R₂ R O O
+pub refuses : (k : ℕ) (a : Answer Made) (n : ℕ) → a ≡ refused n → (x : ℕ) → x ≡ n → (M M₂ R R₂ O : List ℕ)
+    → Meets k a (refused x) M M₂ M R R₂ R O O
 unfolding measured onAccepted ifMade outputAfter
-refuses a n e x f M M₂ R R₂ O = (rw (e, f), (rw e, (rw e, rw e)))
+refuses k a n e x f M M₂ R R₂ O = (rw (e, f), (rw e, (rw e, rw e)))
 
 -- where it was accepted, the buffers are as in solving
-pub accepts : (a : Answer Made) (y : Made) → a ≡ accepted y → (r : Answer Measured) (M M₂ M′ R R₂ R′ O O′ : List ℕ) → r ≡ measured a → M′ ≡ M₂ → R′ ≡ R₂
-    → O′ ≡ outputAfter a O → Meets a r M M₂ M′ R R₂ R′ O O′
+pub accepts : (k : ℕ) (a : Answer Made) (y : Made) → a ≡ accepted y → (r : Answer Measured) (M M₂ M′ R R₂ R′ O O′ : List ℕ)
+    → r ≡ measured k a → M′ ≡ M₂ → R′ ≡ R₂ → O′ ≡ outputAfter a O → Meets k a r M M₂ M′ R R₂ R′ O O′
 unfolding ifMade
-accepts a y e r M M₂ M′ R R₂ R′ O O′ f g h i = (f, (g ∙ rw e, (h ∙ rw e, i)))
+accepts k a y e r M M₂ M′ R R₂ R′ O O′ f g h i = (f, (g ∙ rw e, (h ∙ rw e, i)))
 
 -- y is the reader's answer
 module _ (s : List ℕ) (y : Reading) (ey : readingMeans y ≡ readAnswer s) where

@@ -4,7 +4,8 @@ use mathlib.Core.Path.{_≡_, sym, _∙_, ap}
 use mathlib.Core.List.{List}
 use Rattle.theory.specs.Answer.{accepted}
 use Rattle.theory.specs.Delay.{initialWords, arena}
-use Rattle.sheet.specs.Reading.{readAnswer, delayOf}
+use Rattle.sheet.specs.Bodies.{delayOf}
+use Rattle.sheet.specs.Reading.{readAnswer}
 use Rattle.sheet.specs.SheetGame.{gameOf}
 use Rattle.sheet.specs.declared.reading.Layout.{Layout}
 use Rattle.sheet.proofs.Accepted.{read-is, ranges, carries, arena-nodes}

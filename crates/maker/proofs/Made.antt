@@ -15,9 +15,10 @@ use Rattle.theory.specs.Delay.{Verdict, wins, losing, winning, words, arena, an
 use Rattle.theory.proofs.Answer.{check-accepted, accepted-on, accepted-same}
 use Rattle.theory.proofs.Rounds.{final-length}
 use Rattle.theory.proofs.Tables.{legal-actions}
-use Rattle.sheet.specs.Reading.{readAnswer, delayOf}
+use Rattle.sheet.specs.Bodies.{delayOf}
+use Rattle.sheet.specs.Reading.{readAnswer}
 use Rattle.sheet.specs.SheetGame.{gameOf}
-use Rattle.sheet.proofs.Accepted.{read-is, ranges, arena-nodes}
+use Rattle.sheet.proofs.Accepted.{read-is, ranges, few-nodes, arena-nodes}
 use Rattle.sheet.proofs.Legality.{legal-game}
 use Rattle.sheet.specs.declared.reading.Layout.{Layout}
 use Rattle.solver.specs.Solving.{solveAnswer}
@@ -39,7 +40,7 @@ sheet-ranged s l e =
       few-positions = r .few-positions;
       few-actions = r .few-actions;
       short-delay = r .short-delay;
-      few-nodes = rw (arena-nodes s (delayOf s)) (r .few-nodes);
+      few-nodes = rw (arena-nodes s (delayOf s)) (few-nodes s l e);
     }
 
 -- an accepted making that won

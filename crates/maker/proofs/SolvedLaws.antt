@@ -12,6 +12,7 @@ use Rattle.theory.specs.Buffer.{over}
 use Rattle.theory.specs.Game.{Game}
 use Rattle.theory.specs.Rounds.{masks, finalRanks}
 use Rattle.theory.specs.Delay.{Verdict, wins, losing, arena, answer}
+use Rattle.theory.specs.Reach.{reached}
 use Rattle.theory.proofs.Answer.{refused-not-accepted, check-passed, accepted-same}
 use Rattle.theory.proofs.Buffer.{over-first, over-room}
 use Rattle.theory.proofs.Fold.{both-true}
@@ -19,9 +20,10 @@ use Rattle.theory.proofs.Monotone.{answer-least}
 use Rattle.theory.proofs.Region.{length-masks}
 use Rattle.theory.proofs.Rounds.{final-length}
 use Rattle.sheet.specs.Limits.{mostDelay, mostNodes}
-use Rattle.sheet.specs.Reading.{delayOf}
+use Rattle.sheet.specs.Bodies.{delayOf}
 use Rattle.sheet.specs.SheetGame.{gameOf}
 use Rattle.sheet.specs.declared.reading.Layout.{Layout}
+use Rattle.sheet.proofs.Accepted.{carries}
 use Rattle.text.specs.Page.{page, puts}
 use Rattle.text.proofs.Page.{written}
 use Rattle.solver.specs.Solving.{solveAnswer, solvedDelay, masksLeft, ranksLeft, solutionMeans}
@@ -44,10 +46,10 @@ abbrev bytesIn : Made → List ℕ
 bytesIn (won t) = t
 bytesIn (lost m t) = t
 
-measure-is : (x : Made) → measureOf x ≡ record { verdict = verdictIn x; size = length (bytesIn x) }
+measure-is : (k : ℕ) (x : Made) → measureOf k x ≡ record { verdict = verdictIn x; size = length (bytesIn x); reached = k }
 unfolding measureOf
-measure-is (won t) = refl
-measure-is (lost m t) = refl
+measure-is k (won t) = refl
+measure-is k (lost m t) = refl
 
 output-is : (x : Made) (buffer : List ℕ) → outputAfter (accepted x) buffer ≡ over (bytesIn x) buffer
 unfolding outputAfter
@@ -99,7 +101,7 @@ module _ (s : List ℕ) (l : Layout) (M R O : List ℕ) (ready : Ready s l (leng
     -- the contract, for what the code answers
     abbrev pub Promised : Verdict → List ℕ → ℕ → Type 0
     Promised v O′ n =
-        (accepted (record { verdict = v; size = n }) ≡ measured (makeAnswer s (length M) (length R) (length O)))
+        (accepted (record { verdict = v; size = n; reached = l .reached }) ≡ measured (reached G) (makeAnswer s (length M) (length R) (length O)))
         × ((M′ ≡ masksLeft s (solveAnswer s (length M) (length R)) M)
         × ((R′ ≡ ranksLeft s (solveAnswer s (length M) (length R)) R) × (O′ ≡ outputAfter (makeAnswer s (length M) (length R) (length O)) O)))
 
@@ -111,7 +113,8 @@ module _ (s : List ℕ) (l : Layout) (M R O : List ℕ) (ready : Ready s l (leng
         let x = madeOf G d v in
         let is : makeAnswer s (length M) (length R) (length O) ≡ accepted x = make-is ∙ ap (λ u. accepted (madeOf G d u)) e in
         let whole = eo ∙ written (bytesIn x) O (made-fits v e) in (
-          rw is (ap (λ p. accepted (record { verdict = verdictIn x; size = p .at })) whole ∙ ap accepted (sym (measure-is x))),
+          rw (is, carries s l (ready .reads) .reached)
+              (ap (λ p. accepted (record { verdict = verdictIn x; size = p .at; reached = reached G })) whole ∙ ap accepted (sym (measure-is _ x))),
           (em, (er, rw is (ap (λ p. p .bytes) whole ∙ sym (output-is x O)))),
         )
 

@@ -14,7 +14,7 @@ use Rattle.theory.proofs.Buffer.{over-first, over-room}
 use Rattle.theory.proofs.Region.{length-masks}
 use Rattle.theory.proofs.OurTable.{ours-fits}
 use Rattle.sheet.specs.Limits.{mostNodes, mostWords}
-use Rattle.sheet.specs.Reading.{delayOf}
+use Rattle.sheet.specs.Bodies.{delayOf}
 use Rattle.sheet.specs.SheetGame.{gameOf}
 use Rattle.sheet.specs.declared.reading.Layout.{Layout}
 use Rattle.sheet.proofs.SizeLaws.{small-sizes}

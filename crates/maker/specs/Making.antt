@@ -10,7 +10,8 @@ use Rattle.theory.specs.Game.{Game}
 use Rattle.theory.specs.Rounds.{finalRanks}
 use Rattle.theory.specs.Delay.{Verdict, wins, losing, initialWords, arena}
 use Rattle.theory.specs.Table.{ours}
-use Rattle.sheet.specs.Reading.{delayOf}
+use Rattle.theory.specs.Reach.{reached}
+use Rattle.sheet.specs.Bodies.{delayOf}
 use Rattle.sheet.specs.SheetGame.{gameOf}
 use Rattle.solver.specs.Solving.{solveAnswer, masksSolved, ranksSolved}
 use Rattle.writer.specs.SheetBytes.{tableSheet, rankSheet}
@@ -70,20 +71,25 @@ ranksMade s masks ranks out = ifMade (making s masks ranks out) ranks (ranksSolv
 abbrev pub outputMade : List ℕ → List ℕ → List ℕ → List ℕ → List ℕ
 outputMade s masks ranks out = outputAfter (making s masks ranks out) out
 
--- the verdict, and the made sheet's length
+-- the verdict, the made sheet's length, and the number of reached positions: "Solving and making hand it on in every accepted answer"
 pub record Measured : Type 0 where
   pub verdict : Verdict
   pub size : ℕ
+  pub reached : ℕ
 
-unfoldable pub measureOf : Made → Measured
-measureOf (won t) = record { verdict = wins; size = length t }
-measureOf (lost m t) = record { verdict = losing m; size = length t }
+unfoldable pub measureOf : ℕ → Made → Measured
+measureOf k (won t) = record { verdict = wins; size = length t; reached = k }
+measureOf k (lost m t) = record { verdict = losing m; size = length t; reached = k }
 
-unfoldable pub measured : Answer Made → Answer Measured
-measured a = onAccepted a (λ x. accepted (measureOf x))
+unfoldable pub measured : ℕ → Answer Made → Answer Measured
+measured k a = onAccepted a (λ x. accepted (measureOf k x))
+
+-- what making answers, from the buffers as they were lent
+abbrev pub madeAnswer : List ℕ → List ℕ → List ℕ → List ℕ → Answer Measured
+madeAnswer s masks ranks out = measured (reached (gameOf s)) (making s masks ranks out)
 
 -- document 01's number and values for every case of the code's answer
 abbrev pub makingMeans : Making → Answer Measured
-makingMeans (Winning n) = accepted (record { verdict = wins; size = n })
-makingMeans (Losing m n) = accepted (record { verdict = losing m; size = n })
+makingMeans (Winning n k) = accepted (record { verdict = wins; size = n; reached = k })
+makingMeans (Losing m n k) = accepted (record { verdict = losing m; size = n; reached = k })
 makingMeans (Refused n) = refused n

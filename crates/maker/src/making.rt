@@ -15,21 +15,28 @@ ghost use mathlib.Core.Path.{_≡_};
 ghost use Prim.Native.Nat.{_≤_};
 ghost use lib.ListN.{length, take};
 ghost use Rattle.sheet.specs.Limits.{mostDelay, mostNodes, mostWords};
-ghost use Rattle.sheet.specs.Reading.{delayOf};
+ghost use Rattle.sheet.specs.Bodies.{delayOf};
 ghost use Rattle.sheet.specs.SheetGame.{gameOf};
 ghost use Rattle.text.specs.Page.{Writes};
 ghost use Rattle.solver.specs.Solving.{masksSolved, ranksSolved};
 ghost use Rattle.writer.specs.SheetBytes.{rankBytes};
-ghost use Rattle.maker.specs.Making.{tableSheetOf, measured, makingMeans, making, masksMade, ranksMade, outputMade};
+ghost use Rattle.maker.specs.Making.{tableSheetOf, makingMeans, madeAnswer, masksMade, ranksMade, outputMade};
 ghost use Rattle.maker.specs.code.Checked.{Small, nodesAt, wordsAt, headerBytes, shortOf, Ready, HasTable};
 
 // The contents and the S body of a table sheet.
 const TABLE_START: usize = 19;
 
-// The length of the sheet that was written, with the losing delay where it is a rank sheet.
+// The length of the sheet that was written and the number of reached positions, with the losing delay where it is a rank sheet.
 pub enum Making {
-    Winning(usize),
-    Losing(u8, usize),
+    Winning {
+        size: usize,
+        reached: usize,
+    },
+    Losing {
+        delay: u8,
+        size: usize,
+        reached: usize,
+    },
     Refused(u8),
 }
 
@@ -108,7 +115,7 @@ fn write_table(sheet: &[u8], l: Layout, masks: &[u8], ranks: &[u16], out: &mut [
 fn make_read(sheet: &[u8], l: Layout, masks: &mut [u8], ranks: &mut [u16], out: &mut [u8]) -> Making
     requires { ⌜ Ready (now sheet) l (length (now masks)) (length (now ranks)) (length (now out)) ⌝ }
     ensures answer { λ r. ⌜ makingMeans r
-        ≡ measured (making (now (sheet .entry)) (now (masks .entry)) (now (ranks .entry)) (now (out .entry))) ⌝ }
+        ≡ madeAnswer (now (sheet .entry)) (now (masks .entry)) (now (ranks .entry)) (now (out .entry)) ⌝ }
     ensures masks { λ r. ⌜ now (masks .exit) ≡ masksSolved (now (sheet .entry)) (now (masks .entry)) (now (ranks .entry)) ⌝ }
     ensures ranks { λ r. ⌜ now (ranks .exit) ≡ ranksSolved (now (sheet .entry)) (now (masks .entry)) (now (ranks .entry)) ⌝ }
     ensures output { λ r. ⌜ now (out .exit)
@@ -116,8 +123,15 @@ fn make_read(sheet: &[u8], l: Layout, masks: &mut [u8], ranks: &mut [u16], out: 
 {
     let solution = solve(sheet, masks, ranks);
     match solution {
-        Solution::Winning(_) => Making::Winning(write_table(sheet, l, masks, ranks, out)),
-        Solution::Losing(m, _) => Making::Losing(m, write_ranks(l, m, ranks, out)),
+        Solution::Winning(_) => Making::Winning {
+            size: write_table(sheet, l, masks, ranks, out),
+            reached: l.reached,
+        },
+        Solution::Losing(m, _) => Making::Losing {
+            delay: m,
+            size: write_ranks(l, m, ranks, out),
+            reached: l.reached,
+        },
         Solution::Refused(n) => Making::Refused(n),
     }
 }
@@ -125,7 +139,7 @@ fn make_read(sheet: &[u8], l: Layout, masks: &mut [u8], ranks: &mut [u16], out: 
 // Making: the answer, the areas as in solving, and the sheet in `out`.
 pub fn make(sheet: &[u8], masks: &mut [u8], ranks: &mut [u16], out: &mut [u8]) -> Making
     ensures answer { λ r. ⌜ makingMeans r
-        ≡ measured (making (now (sheet .entry)) (now (masks .entry)) (now (ranks .entry)) (now (out .entry))) ⌝ }
+        ≡ madeAnswer (now (sheet .entry)) (now (masks .entry)) (now (ranks .entry)) (now (out .entry)) ⌝ }
     ensures masks { λ r. ⌜ now (masks .exit)
         ≡ masksMade (now (sheet .entry)) (now (masks .entry)) (now (ranks .entry)) (now (out .entry)) ⌝ }
     ensures ranks { λ r. ⌜ now (ranks .exit)

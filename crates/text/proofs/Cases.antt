@@ -7,14 +7,14 @@ use Rattle.text.specs.Lines.{losingLine, refusedLine, winningLine, headL
 use Rattle.text.proofs.Computing.{text-computes}
 
 -- the guess yard at lag 1
-guess : headLine 1 4 2 ++ (losingLine 1 ++ rankLines 2 0 (0 ∷ 0 ∷ 2 ∷ 1 ∷ []))
-    ≡ ascii "lag 1 positions 4 commands 2\nlosing 1\npair 2 - rank 2\npair 3 - rank 1\n"
+guess : headLine 1 4 2 4 ++ (losingLine 1 ++ rankLines 2 0 (0 ∷ 0 ∷ 2 ∷ 1 ∷ []))
+    ≡ ascii "lag 1 positions 4 commands 2 reached 4\nlosing 1\npair 2 - rank 2\npair 3 - rank 1\n"
 unfolding text-computes
 guess = refl
 
 -- the sorting hall at lag 2
-hall : headLine 2 7 2 ++ (winningLine ++ (startLines 2 1 (1 ∷ 1 ∷ []) ++ allowLines 2 1 (1 ∷ 1 ∷ 2 ∷ 2 ∷ 3 ∷ 0 ∷ 0 ∷ 3 ∷ 0 ∷ [])))
-    ≡ ascii "lag 2 positions 7 commands 2\nwinning\nstart 0\nstart 1\npair 0 0 allow 0\npair 0 1 allow 0\npair 1 0 allow 1\npair 1 1 allow 1\npair 2 0 allow 01\npair 3 1 allow 01\n"
+hall : headLine 2 7 2 7 ++ (winningLine ++ (startLines 2 1 (1 ∷ 1 ∷ []) ++ allowLines 2 1 (1 ∷ 1 ∷ 2 ∷ 2 ∷ 3 ∷ 0 ∷ 0 ∷ 3 ∷ 0 ∷ [])))
+    ≡ ascii "lag 2 positions 7 commands 2 reached 7\nwinning\nstart 0\nstart 1\npair 0 0 allow 0\npair 0 1 allow 0\npair 1 0 allow 1\npair 1 1 allow 1\npair 2 0 allow 01\npair 3 1 allow 01\n"
 unfolding text-computes
 hall = refl
 

@@ -24,13 +24,15 @@ pub field-line : (name : List ℕ) (n : ℕ) (p : Page) {q r : Page} → q ≡ p
 unfolding fieldLine
 field-line name n p e f = after p (fieldText name n) (ascii "\n") e f
 
-pub head-is : (d n a : ℕ) (p : Page) {q r s : Page} → q ≡ puts p (fieldText (ascii "lag ") d)
-    → r ≡ puts q (fieldText (ascii " positions ") n)
-    → s ≡ puts r (fieldLine (ascii " commands ") a) → s ≡ puts p (headLine d n a)
+pub head-is : (d n a m : ℕ) (p : Page) {q r s t : Page} → q ≡ puts p (fieldText (ascii "lag ") d)
+    → r ≡ puts q (fieldText (ascii " positions ") n) → s ≡ puts r (fieldText (ascii " commands ") a)
+    → t ≡ puts s (fieldLine (ascii " reached ") m) → t ≡ puts p (headLine d n a m)
 unfolding headLine
-head-is d n a p {q} e f g =
-    after p (fieldText (ascii "lag ") d) (fieldText (ascii " positions ") n ++ fieldLine (ascii " commands ") a) e
-    (after q (fieldText (ascii " positions ") n) (fieldLine (ascii " commands ") a) f g)
+head-is d n a m p {q} {r} e f g h =
+    let last = fieldText (ascii " commands ") a ++ fieldLine (ascii " reached ") m in
+    after p (fieldText (ascii "lag ") d) (fieldText (ascii " positions ") n ++ last) e
+    (after q (fieldText (ascii " positions ") n) last f
+    (after r (fieldText (ascii " commands ") a) (fieldLine (ascii " reached ") m) g h))
 
 pub start-is : (a l v : ℕ) (p : Page) {q r s : Page} → q ≡ puts p (ascii "start ") → r ≡ puts q (wordText a l v)
     → s ≡ puts r (ascii "\n") → s ≡ puts p (startLine a l v)
@@ -50,7 +52,7 @@ pub rank-is : (a l k rank : ℕ) (p : Page) {q r : Page} → q ≡ puts p (nodeT
 unfolding rankLine
 rank-is a l k rank p e f = after p (nodeText a l k) (fieldLine (ascii " rank ") rank) e f
 
-pub ruleset line-laws = (needs, field-line, head-is, start-is, allow-is, rank-is)
+pub ruleset line-laws = (needs, field-line, start-is, allow-is, rank-is)
 
 -- entries with a line, and without
 
@@ -102,13 +104,15 @@ pub length-winning : length winningLine ≡ 8
 unfolding winningLine
 length-winning = refl
 
--- a delay of i + 1 digits, positions of j + 1 and actions of k + 1
-pub length-head : (d p a i j k : ℕ) → d < 10 ^ suc i → p < 10 ^ suc j → a < 10 ^ suc k → length (headLine d p a) ≤ 29 + i + j + k
+-- a delay of i + 1 digits, positions of j + 1, actions of k + 1 and reached positions of l + 1
+pub length-head : (d p a n i j k l : ℕ) → d < 10 ^ suc i → p < 10 ^ suc j → a < 10 ^ suc k → n < 10 ^ suc l
+    → length (headLine d p a n) ≤ 39 + i + j + k + l
 unfolding headLine
-length-head d p a i j k f g h =
+length-head d p a n i j k l f g h e =
     let x : length (fieldText (ascii "lag ") d) ≤ 4 + suc i = length-field (ascii "lag ") d i f in
     let y : length (fieldText (ascii " positions ") p) ≤ 11 + suc j = length-field (ascii " positions ") p j g in
-    let z : length (fieldLine (ascii " commands ") a) ≤ 10 + k + 2 = length-line (ascii " commands ") a k h in
+    let z : length (fieldText (ascii " commands ") a) ≤ 10 + suc k = length-field (ascii " commands ") a k h in
+    let w : length (fieldLine (ascii " reached ") n) ≤ 9 + l + 2 = length-line (ascii " reached ") n l e in
     simp length-append (omega arith)
 
 -- a word of at most w actions

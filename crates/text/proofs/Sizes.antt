@@ -14,8 +14,8 @@ refused-size n h = length-refused n 1 h
 pub losing-size : (m : ℕ) → m < 10 → length (losingLine m) ≤ 9
 losing-size m h = length-losing m 0 h
 
-pub head-size : (d p a : ℕ) → d < 10 → p ≤ 256 → a < 10 → length (headLine d p a) ≤ 31
-head-size d p a f g h = length-head d p a 0 2 0 f (omega arith) h
+pub head-size : (d p a n : ℕ) → d < 10 → p ≤ 256 → a < 10 → n ≤ 256 → length (headLine d p a n) ≤ 43
+head-size d p a n f g h e = length-head d p a n 0 2 0 2 f (omega arith) h (omega arith)
 
 pub starts-size : (a l : ℕ) (flags : List ℕ) → l ≤ 3 → length flags ≤ 512 → length (startLines a l flags) ≤ 5120
 starts-size a l flags h g =

@@ -24,10 +24,11 @@ losingLine m = fieldLine (ascii "losing ") m
 unfoldable pub winningLine : List ℕ
 winningLine = ascii "winning\n"
 
--- "lag D positions P commands A"
-unfoldable pub headLine : ℕ → ℕ → ℕ → List ℕ
-headLine d p a =
-    fieldText (ascii "lag ") d ++ (fieldText (ascii " positions ") p ++ fieldLine (ascii " commands ") a)
+-- "lag D positions P commands A", and the line "ends with ` reached N`"
+unfoldable pub headLine : ℕ → ℕ → ℕ → ℕ → List ℕ
+headLine d p a n =
+    fieldText (ascii "lag ") d ++
+    (fieldText (ascii " positions ") p ++ (fieldText (ascii " commands ") a ++ fieldLine (ascii " reached ") n))
 
 -- "start WORD", of the word v of l actions
 unfoldable pub startLine : ℕ → ℕ → ℕ → List ℕ

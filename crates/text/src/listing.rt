@@ -46,12 +46,20 @@ pub fn put_winning(out: &mut [u8], at: usize) -> usize
     put_text(out, at, b"winning\n")
 }
 
-pub fn put_head(out: &mut [u8], at: usize, delay: usize, positions: usize, actions: usize) -> usize
-    ensures { λ r. ⌜ Writes (now (out .entry)) at (headLine delay positions actions) (now (out .exit)) r ⌝ }
+pub fn put_head(
+    out: &mut [u8],
+    at: usize,
+    delay: usize,
+    positions: usize,
+    actions: usize,
+    reached: usize,
+) -> usize
+    ensures { λ r. ⌜ Writes (now (out .entry)) at (headLine delay positions actions reached) (now (out .exit)) r ⌝ }
 {
     let p = put_field(out, at, b"lag ", delay);
     let c = put_field(out, p, b" positions ", positions);
-    put_field_line(out, c, b" commands ", actions)
+    let n = put_field(out, c, b" commands ", actions);
+    put_field_line(out, n, b" reached ", reached)
 }
 
 // The word of `count` actions.

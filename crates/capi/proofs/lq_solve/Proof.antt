@@ -7,7 +7,7 @@ use Rattle.capi.proofs.lq_solve.Tie as tie
 pub lq-solve-spec : {M : Type 1} → statement M
 lq-solve-spec =
     tie.close
-    (tie.spec (λ c κs. search needs) (λ c. search needs) (λ c. search needs) (λ c. search needs) (λ c. search needs)
-    (λ c. search needs) (λ c. (search solves, (search needs, (search needs, search solves))))
-    (λ c. search needs) (λ c. search needs) (λ c. (search solves, (search needs, (search needs, search solves))))
-    (λ c. search needs) (λ c. search needs) (λ c. (search solves, (search needs, (search needs, search solves)))))
+    (tie.spec (λ c κs. search needs) (λ c. search needs) (λ c. search needs) (λ c. search needs)
+    (λ c. search needs) (λ c. search needs) (λ c. (search solves, (search needs, (search needs, (search solves, search solves)))))
+    (λ c. search needs) (λ c. search needs) (λ c. (search solves, (search needs, (search needs, (search solves, search solves)))))
+    (λ c. search needs) (λ c. search needs) (λ c. (search solves, (search needs, (search needs, (search solves, search solves))))))

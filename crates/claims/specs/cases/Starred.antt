@@ -10,7 +10,7 @@ use Rattle.theory.specs.Play.{Play, last, index, back, Rule}
 use Rattle.theory.specs.Exact.{playOf}
 use Rattle.theory.specs.cases.Games.{Result, winsBy, losesAt, resultBy}
 use Rattle.sheet.specs.Limits.{mostNodes}
-use Rattle.sheet.specs.Reading.{delayOf}
+use Rattle.sheet.specs.Bodies.{delayOf}
 use Rattle.sheet.specs.SheetGame.{gameOf}
 use Rattle.sheet.specs.cases.Yards.{sheetWith, guess, splitGate, loop, hall}
 use Rattle.solver.specs.Solving.{solveAnswer}

@@ -3,7 +3,7 @@ use Prim.Native.Nat.{ℕ}
 use mathlib.Core.List.{List}
 use Rattle.theory.specs.Fold.{tabulate}
 use Rattle.theory.specs.Strategy.{initialLength}
-use Rattle.sheet.specs.Reading.{delayOf}
+use Rattle.sheet.specs.Bodies.{delayOf}
 use Rattle.sheet.specs.SheetGame.{gameOf}
 use Rattle.sheet.specs.declared.reading.Layout.{Layout}
 use Rattle.text.specs.Lines.{startLines}
@@ -19,7 +19,7 @@ abbrev pub startsBy : Layout → List ℕ → List ℕ
 startsBy l flags = startLines (l .actions) (initialLength (l .delay)) flags
 
 abbrev pub wonBy : Layout → List ℕ → List ℕ → List ℕ
-wonBy l flags masks = wonText (l .delay) (l .positions .size) (l .actions) flags masks
+wonBy l flags masks = wonText (l .delay) (l .positions .size) (l .actions) (l .reached) flags masks
 
 abbrev pub lostBy : Layout → ℕ → List ℕ → List ℕ
-lostBy l m ranks = lostText (l .delay) (l .positions .size) (l .actions) m ranks
+lostBy l m ranks = lostText (l .delay) (l .positions .size) (l .actions) (l .reached) m ranks

@@ -7,7 +7,10 @@ use Rattle.capi.proofs.tables.lq_make.Tie as tie
 pub lq-make-spec : {M : Type 1} → statement M
 lq-make-spec =
     tie.close
-    (tie.spec (λ c κs. search needs) (λ c. search needs) (λ c. search needs) (λ c. search needs) (λ c. search needs)
-    (λ c. search needs) (λ c. search needs) (λ c. (search makes, (search needs, (search needs, (search needs, (search makes, search makes)))))) (λ c. search needs) (λ c. search needs)
-    (λ c. search needs) (λ c. (search makes, (search needs, (search needs, (search needs, (search makes, search makes)))))) (λ c. search needs) (λ c. search needs) (λ c. search needs)
-    (λ c. (search makes, (search needs, (search needs, (search needs, (search makes, search makes)))))))
+    (tie.spec (λ c κs. search needs) (λ c. search needs) (λ c. search needs) (λ c. search needs)
+    (λ c. search needs) (λ c. search needs) (λ c. search needs)
+    (λ c. (search makes, (search needs, (search needs, (search needs, (search makes, (search makes, search makes)))))))
+    (λ c. search needs) (λ c. search needs) (λ c. search needs)
+    (λ c. (search makes, (search needs, (search needs, (search needs, (search makes, (search makes, search makes)))))))
+    (λ c. search needs) (λ c. search needs) (λ c. search needs)
+    (λ c. (search makes, (search needs, (search needs, (search needs, (search makes, (search makes, search makes))))))))

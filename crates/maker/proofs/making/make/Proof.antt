@@ -8,13 +8,13 @@ use Rattle.maker.proofs.making.make.Tie as tie
 
 returns : tie.Need-returns
 returns c =
-    refuses _ _ (reading-refused _ _ (c .before .before .before .read .ensures) _ _ _ _ (c .before .enum-told .given .1)) _
+    refuses _ _ _ (reading-refused _ _ (c .before .before .before .read .ensures) _ _ _ _ (c .before .enum-told .given .1)) _
     (c .refusal-number .ensures) _ _ _ _ _
 
 returns-2 : tie.Need-returns-2
 returns-2 c =
     let r = c .before .before .before in
-    refuses _ _
+    refuses _ _ _
     (read-says _ _ (r .before .before .read .ensures) _ (r .reading .given .1) _ _ _ _ (c .before .short-buffer .ensures) .refuses (c .if1 .taken)) _
     refl _ _ _ _ _
 
@@ -24,7 +24,7 @@ returns-3 c =
     let i = m .before .before .before .before in
     let r = i .before .before .before in
     let a = r .before .before .before .before .before .before .before in
-    accepts _ _
+    accepts _ _ _
     (make-is _ _ (a .args .masks .now) (a .args .ranks .now) (a .args .out .now)
     (read-says _ _ (r .before .before .read .ensures) _ (r .reading .given .1) _ _ _ _ (i .before .short-buffer .ensures) .ready (i .if1 .left)))
     _ _ _ _ _ _ _ _ _ (m .make-read .ensures .0) (m .make-read .ensures .1 .0) (m .make-read .ensures .1 .1 .0) (m .make-read .ensures .1 .1 .1)
