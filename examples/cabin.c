@@ -37,8 +37,13 @@ int main(void) {
     uint8_t masks[14];
     uint16_t ranks[14];
     uint8_t losing;
-    if (lq_make(HALL, sizeof HALL, masks, 14, ranks, 14, table, sizeof table, &table_len, &losing) != 0 || losing != LQ_WINS) {
+    size_t reached;
+    if (lq_make(HALL, sizeof HALL, masks, 14, ranks, 14, table, sizeof table, &table_len, &losing, &reached) != 0 || losing != LQ_WINS) {
         printf("no winning sheet\n");
+        return 1;
+    }
+    if (reached != 7) {
+        printf("part of the hall is cut off\n");
         return 1;
     }
     printf("a winning sheet of %zu bytes\n", table_len);

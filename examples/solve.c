@@ -1,4 +1,4 @@
-/* Solves document 01's guess yard at lag 1 and prints the verdict. */
+/* Solves document 01's guess yard at lag 1 and prints how many positions are reached from the start, and the verdict. */
 #include <stdio.h>
 
 #include "loquatquoits.h"
@@ -15,11 +15,13 @@ int main(void) {
     uint8_t masks[4];
     uint16_t ranks[4];
     uint8_t losing;
-    uint8_t refusal = lq_solve(GUESS, sizeof GUESS, masks, 4, ranks, 4, &losing);
+    size_t reached;
+    uint8_t refusal = lq_solve(GUESS, sizeof GUESS, masks, 4, ranks, 4, &losing, &reached);
     if (refusal != 0) {
         printf("refused %u\n", refusal);
         return 1;
     }
+    printf("reached %zu of 4\n", reached);
     if (losing == LQ_WINS) {
         printf("winning\n");
         return 0;

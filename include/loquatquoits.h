@@ -42,8 +42,8 @@
  * Memory. The library has no static data and needs no initialisation: a function reads and writes only what is lent to it and its stack.
  * So it is reentrant, and threads may call at the same time if none writes to what another was lent. (One sheet may be lent to all, a
  * cabin's state to one at a time.) A pointer is not null and valid for the length that goes with it, and what is lent for writing
- * overlaps nothing else that is lent. Measured on x86-64 over sheets with up to 16,384 pairs, lq_make goes 73,624 bytes deep into the
- * stack, lq_solve 68,728, lq_read 1,160 and each other function fewer than 600: a stack of 80 KiB is enough for any, and one of 4 KiB for
+ * overlaps nothing else that is lent. Measured on x86-64 over sheets with up to 16,384 pairs, lq_make goes 78,020 bytes deep into the
+ * stack, lq_solve 73,100, lq_read 8,660 and each other function fewer than 600: a stack of 96 KiB is enough for any, and one of 4 KiB for
  * the cabin's functions.
  */
 #ifndef LOQUATQUOITS_H
@@ -72,25 +72,28 @@ extern "C" {
 
 /*
  * Reads a yard sheet: refusals 1 to 7. Accepted: header holds start, number of commands and lag. places holds the offset and the length
- * of each body in the sheet: S at 0 and 1, P at 2 and 3, C at 4 and 5, U at 6 and 7.
+ * of each body in the sheet: S at 0 and 1, P at 2 and 3, C at 4 and 5, U at 6 and 7. *reached is the number of positions that lie on some
+ * play from the start, the start included, safe or not and whichever commands are played: under the number of positions where part of the
+ * yard is cut off. A refusal leaves it.
  */
-uint8_t lq_read(const uint8_t *sheet, size_t sheet_len, uint8_t header[3], size_t places[8]);
+uint8_t lq_read(const uint8_t *sheet, size_t sheet_len, uint8_t header[3], size_t places[8], size_t *reached);
 
 /*
  * Solves a yard sheet: refusals 1 to 7, then 8. Accepted: *losing is LQ_WINS, and both buffers hold the entries for the asked lag, one for
  * each pair by its number; or *losing is the least lag at which no strategy wins, and they hold the entries for that lag. A mask has
- * bit c set for each allowed command c; a rank is the round in which the pair fell, 0 for none. Entries beyond are as they were.
+ * bit c set for each allowed command c; a rank is the round in which the pair fell, 0 for none. Entries beyond are as they were. *reached
+ * is as in reading, winning or losing; a refusal leaves it.
  */
 uint8_t lq_solve(const uint8_t *sheet, size_t sheet_len, uint8_t *masks, size_t masks_len, uint16_t *ranks, size_t ranks_len,
-                 uint8_t *losing);
+                 uint8_t *losing, size_t *reached);
 
 /*
  * Makes the sheet of a table: refusals 1 to 8 as in solving, then 9. Accepted: the buffers as in solving; *losing is LQ_WINS and out holds
  * a winning sheet (S, W, T), or *losing is the losing lag and out holds a losing sheet (S, R); *size is its length. Bytes beyond are as
- * they were.
+ * they were. *reached is as in reading, winning or losing; a refusal leaves it.
  */
 uint8_t lq_make(const uint8_t *sheet, size_t sheet_len, uint8_t *masks, size_t masks_len, uint16_t *ranks, size_t ranks_len, uint8_t *out,
-                size_t out_len, size_t *size, uint8_t *losing);
+                size_t out_len, size_t *size, uint8_t *losing, size_t *reached);
 
 /*
  * Reads a winning sheet: refusals 10 to 12. Accepted: place holds the offset and the length of the T body, the masks by pair number, in the

@@ -5,11 +5,15 @@ pub struct Hand {
     start: usize,
     pub actions: usize,
     pub delay: usize,
+    pub reached: usize,
     kinds: Vec<u8>,
     pub grid: Vec<[u16; 8]>,
-    first: Vec<usize>,
+    lines: Lines,
     to: Vec<u8>,
 }
+
+/// For each position, where its lines begin and end in its body: C for an own one, U for the yard's.
+type Lines = [(u16, u16); 256];
 
 pub const ABSENT: u16 = 256;
 
@@ -32,8 +36,51 @@ pub fn bodies<'a, const N: usize>(sheet: &'a [u8], letters: &[u8; N]) -> Option<
     Some((bodies, at))
 }
 
-/// The bodies of a sheet that passes checks 1 to 7.
-fn read(sheet: &[u8]) -> Option<[&[u8]; 4]> {
+/// A sheet that passes checks 1 to 7.
+pub struct Reading<'a> {
+    bodies: [&'a [u8]; 4],
+    lines: Lines,
+    pub reached: usize,
+}
+
+fn add_lines(lines: &mut Lines, body: &[u8], width: usize) {
+    for (k, line) in body.chunks(width).enumerate() {
+        let (first, end) = &mut lines[line[0] as usize];
+        if *end == 0 {
+            *first = k as u16;
+        }
+        *end = k as u16 + 1;
+    }
+}
+
+/// How many positions are reached from the start: a queue of those met, each of whose lines is looked at once.
+fn reached([s, p, c, u]: [&[u8]; 4], lines: &Lines) -> usize {
+    let mut met = [false; 256];
+    let mut queue = [0; 256];
+    let (mut next, mut end) = (0, 1);
+    queue[0] = s[0];
+    met[s[0] as usize] = true;
+    while next < end {
+        let from = queue[next] as usize;
+        next += 1;
+        let mut meet = |to: u8| {
+            if !met[to as usize] {
+                met[to as usize] = true;
+                queue[end] = to;
+                end += 1;
+            }
+        };
+        let range = lines[from].0 as usize..lines[from].1 as usize;
+        if p[from] < 2 {
+            c[3 * range.start..3 * range.end].chunks_exact(3).for_each(|line| meet(line[2]));
+        } else {
+            u[2 * range.start..2 * range.end].chunks_exact(2).for_each(|line| meet(line[1]));
+        }
+    }
+    end
+}
+
+pub fn read(sheet: &[u8]) -> Option<Reading<'_>> {
     let (bodies, at) = bodies(sheet, b"SPCU")?;
     let [s, p, c, u] = bodies;
     let own = |q: u8| p.get(q as usize).is_some_and(|&kind| kind < 2);
@@ -41,9 +88,9 @@ fn read(sheet: &[u8]) -> Option<[&[u8]; 4]> {
     let rising = |b: &[u8], width: usize| {
         b.chunks(width).zip(b.chunks(width).skip(1)).all(|(x, y)| (x[0], x[1]) < (y[0], y[1]))
     };
-    let mut leaves = [false; 256];
-    c.chunks(3).for_each(|line| leaves[line[0] as usize] = true);
-    u.chunks(2).for_each(|line| leaves[line[0] as usize] = true);
+    let mut lines = [(0, 0); 256];
+    add_lines(&mut lines, c, 3);
+    add_lines(&mut lines, u, 2);
     let right = at == sheet.len()
         && !p.is_empty()
         && p.len() <= 256
@@ -59,34 +106,28 @@ fn read(sheet: &[u8]) -> Option<[&[u8]; 4]> {
         && u.len() <= 8192
         && u.chunks(2).all(|line| other(line[0]) && own(line[1]))
         && rising(u, 2)
-        && leaves[..p.len()].iter().all(|&leaves| leaves)
+        && lines[..p.len()].iter().all(|&(_, end)| end != 0)
         && p.len() * (s[1] as usize).pow(s[2] as u32 / 2) <= 16_384;
-    right.then_some(bodies)
+    right.then(|| Reading { bodies, lines, reached: reached(bodies, &lines) })
 }
 
 impl Hand {
     /// From a sheet that is accepted.
     pub fn new(sheet: &[u8]) -> Hand {
-        let [s, p, c, u] = read(sheet).unwrap();
+        let Reading { bodies: [s, p, c, u], lines, reached } = read(sheet).unwrap();
         let mut grid = vec![[ABSENT; 8]; p.len()];
         for line in c.chunks(3) {
             grid[line[0] as usize][line[1] as usize] = line[2] as u16;
-        }
-        let mut first = vec![0; p.len() + 1];
-        for line in u.chunks(2) {
-            first[line[0] as usize + 1] += 1;
-        }
-        for q in 0..p.len() {
-            first[q + 1] += first[q];
         }
         Hand {
             positions: p.len(),
             start: s[0] as usize,
             actions: s[1] as usize,
             delay: s[2] as usize,
+            reached,
             kinds: p.to_vec(),
             grid,
-            first,
+            lines,
             to: u.chunks(2).map(|l| l[1]).collect(),
         }
     }
@@ -99,8 +140,10 @@ impl Hand {
         self.kinds[p] % 2 == 0
     }
 
+    /// Of a yard position.
     pub fn moves(&self, p: usize) -> &[u8] {
-        &self.to[self.first[p]..self.first[p + 1]]
+        let (first, end) = self.lines[p];
+        &self.to[first as usize..end as usize]
     }
 
     /// Is a command spoilt at a pair? h is the command that is then played, and rest what is pending after it.

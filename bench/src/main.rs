@@ -1,9 +1,9 @@
-//! The proved solver against two hand-written versions of the same rounds, and the proved cabin against a hand-written one, in one run on
-//! one machine.
+//! The proved solver against two hand-written versions of the same rounds, and the proved reader and the proved cabin against hand-written
+//! ones, in one run on one machine.
 use loquatquoits_tests::naive::{self, Game, Rule, Verdict};
 use loquatquoits_tests::proved;
 use loquatquoits_tests::random::Random;
-use loquatquoits_tests::sheets::{self, random_yard, Shape, Yard};
+use loquatquoits_tests::sheets::{self, chain, random_yard, Shape, Yard};
 use loquatquoits_tests::worst::{fan, standing, worst, Worst};
 use std::hint::black_box;
 use std::time::{Duration, Instant};
@@ -41,6 +41,11 @@ fn milliseconds(time: Duration) -> f64 {
     time.as_secs_f64() * 1e3
 }
 
+/// Each one of so many done in this time.
+fn nanoseconds(time: Duration, done: usize) -> f64 {
+    time.as_secs_f64() * 1e9 / done as f64
+}
+
 /// What a version leaves in its buffers, and its answer.
 struct Buffers {
     masks: Vec<u8>,
@@ -59,7 +64,7 @@ fn versions(yard: &Yard, runs: usize) -> ([Duration; 3], u16) {
     let [mut ours, mut hand, mut bits] = [(); 3].map(|()| Buffers::new(yard.pairs()));
     let game = hand::Hand::new(&sheet);
     let answer = proved::solve(&sheet, &mut ours.masks, &mut ours.ranks).unwrap();
-    assert_eq!(bits::solve(&game, &mut bits.masks, &mut bits.ranks), answer);
+    assert_eq!((bits::solve(&game, &mut bits.masks, &mut bits.ranks), game.reached), (answer.losing, answer.reached));
     assert_eq!((&ours.masks, &ours.ranks), (&bits.masks, &bits.ranks));
     let mut by_hand = || {
         black_box(hand::Hand::new(&sheet).solve(&mut hand.masks, &mut hand.ranks));
@@ -106,7 +111,7 @@ fn measure(name: &str, yard: &Yard) {
     });
     let n = yard.pairs();
     let answer = proved::solve(&sheet, &mut vec![0; n], &mut vec![0; n]).unwrap();
-    assert_eq!(answer, match verdict.unwrap() {
+    assert_eq!(answer.losing, match verdict.unwrap() {
         Verdict::Winning(_) => None,
         Verdict::Losing(m, _) => Some(m),
     });
@@ -120,21 +125,11 @@ fn winning_yard(random: &mut Random, shape: &Shape, delay: u8) -> Yard {
         let open = Shape { permitted: 100, unsafe_positions, ..*shape };
         let yard = random_yard(random, &open).at(delay);
         let n = yard.pairs();
-        if proved::solve(&yard.sheet(), &mut vec![0; n], &mut vec![0; n]) == Ok(None) {
+        if proved::solve(&yard.sheet(), &mut vec![0; n], &mut vec![0; n]).unwrap().losing.is_none() {
             return yard;
         }
     }
     unreachable!()
-}
-
-/// A chain: from each own position the yard goes one on, the last is unsafe, so that every round strikes one position more.
-fn chain(links: usize) -> Yard {
-    let own = |k: usize| (2 * k) as u8;
-    let other = |k: usize| (2 * k + 1) as u8;
-    let kinds = (0..links).flat_map(|k| [u8::from(k + 1 == links), 2]).collect();
-    let targets = (0..links).flat_map(|k| [[own(k), 0, other(k)], [own(k), 1, other(k)]]).collect();
-    let moves = (0..links).map(|k| [other(k), own((k + 1) % links)]).collect();
-    Yard { start: 0, actions: 2, delay: 0, kinds, targets, moves }
 }
 
 /// A yard with as many pairs as there may be, which wins: any command leads round.
@@ -144,6 +139,16 @@ fn round_about() -> Yard {
     let targets = (0..128).flat_map(|k| (0..8).map(move |c| [own(k), c, other(k)])).collect();
     let moves = (0..128).map(|k| [other(k), own((k + 1) % 128)]).collect();
     Yard { start: 0, actions: 8, delay: 4, kinds: (0..256).map(|p| if p % 2 == 0 { 0 } else { 2 }).collect(), targets, moves }
+}
+
+/// The positions of `round_about` with every command and as many moves as there may be, each leading a few positions on.
+fn dense() -> Yard {
+    let own = |k: usize| (2 * (k % 128)) as u8;
+    let other = |k: usize| own(k) + 1;
+    let targets = (0..128).flat_map(|k| (0..8).map(move |c| [own(k), c as u8, other(k + c)])).collect();
+    let mut moves: Vec<_> = (0..128).flat_map(|k| (1..=32).map(move |on| [other(k), own(k + on)])).collect();
+    moves.sort_unstable();
+    Yard { targets, moves, ..round_about() }
 }
 
 fn yards() {
@@ -198,11 +203,53 @@ fn worst_yards() {
     println!();
 }
 
+/// A reading is too short to be timed alone, so many are timed together.
+fn measure_reading(name: &str, yard: &Yard) {
+    let sheet = yard.sheet();
+    let reached = naive::read(&sheet).unwrap().reached;
+    let readings = 200;
+    let [by_proof, by_hand] = compare(
+        30,
+        [
+            &mut || {
+                for _ in 0..readings {
+                    assert_eq!(proved::read(black_box(&sheet)).unwrap().reached, reached);
+                }
+            },
+            &mut || {
+                for _ in 0..readings {
+                    assert_eq!(hand::read(black_box(&sheet)).unwrap().reached, reached);
+                }
+            },
+        ],
+    );
+    println!(
+        "| {name} | {} | {} | {reached} | {:.0} ns | {:.0} ns | {:.2} |",
+        yard.kinds.len(),
+        yard.targets.len() + yard.moves.len(),
+        nanoseconds(by_proof, readings),
+        nanoseconds(by_hand, readings),
+        ratio(by_proof, by_hand),
+    );
+}
+
+/// Either order of numbers: a reader that goes over the lines again and again would be slow where the chain leads down.
+fn readings() {
+    println!("| reading, with the number of reached positions | positions | lines | reached | proved | by hand | proved / by hand |");
+    println!("|---|---|---|---|---|---|---|");
+    measure_reading("dense", &dense());
+    measure_reading("dense, numbered down", &dense().turned());
+    measure_reading("chain of 128 links", &chain(128));
+    measure_reading("chain of 128 links, numbered down", &chain(128).turned());
+    measure_reading("the guess yard", &sheets::guess());
+    println!();
+}
+
 /// Turns a second over a table: each turn hears the report that is needed and gives the command.
 fn measure_cabin(name: &str, yard: &Yard) {
     let n = yard.pairs();
-    let (sheet, losing) = proved::make(&yard.sheet(), &mut vec![0; n], &mut vec![0; n], 50_000).unwrap();
-    assert_eq!(losing, None);
+    let (sheet, answer) = proved::make(&yard.sheet(), &mut vec![0; n], &mut vec![0; n], 50_000).unwrap();
+    assert_eq!(answer.losing, None);
     let delay = yard.delay as usize;
     let turns = 1_000;
     // the play against the yard that always makes its first move, worked out once
@@ -241,8 +288,12 @@ fn measure_cabin(name: &str, yard: &Yard) {
             },
         ],
     );
-    let nanoseconds = |time: Duration| time.as_secs_f64() * 1e9 / turns as f64;
-    println!("| {name} | {n} | {:.0} ns | {:.0} ns | {:.2} |", nanoseconds(by_proof), nanoseconds(by_hand), ratio(by_proof, by_hand));
+    println!(
+        "| {name} | {n} | {:.0} ns | {:.0} ns | {:.2} |",
+        nanoseconds(by_proof, turns),
+        nanoseconds(by_hand, turns),
+        ratio(by_proof, by_hand),
+    );
 }
 
 fn cabins() {
@@ -257,5 +308,6 @@ fn cabins() {
 fn main() {
     yards();
     worst_yards();
+    readings();
     cabins();
 }

@@ -9,6 +9,8 @@ pub struct Read {
     pub delay: u8,
     /// Offset and length of S, P, C, U.
     pub places: [(usize, usize); 4],
+    /// How many positions lie on some play from the start.
+    pub reached: usize,
 }
 
 /// Entries of a table of contents that is right, or none: refusals 1 and 10.
@@ -29,6 +31,18 @@ pub fn contents(sheet: &[u8], letters: &[u8]) -> Option<Vec<(usize, usize)>> {
         places.push((offset, length));
     }
     if expected == sheet.len() { Some(places) } else { None }
+}
+
+/// The positions that lie on some play from the start, over lines of from and to: a set that grows until no line leads out of it.
+pub fn reached(start: u8, lines: &[(u8, u8)]) -> BTreeSet<u8> {
+    let mut reached = BTreeSet::from([start]);
+    loop {
+        let next: BTreeSet<u8> = lines.iter().filter(|line| reached.contains(&line.0)).map(|line| line.1).collect();
+        if next.is_subset(&reached) {
+            return reached;
+        }
+        reached.extend(next);
+    }
 }
 
 /// "Reading a yard sheet", check by check in the order written.
@@ -68,7 +82,8 @@ pub fn read(sheet: &[u8]) -> Result<Read, u8> {
         return Err(7);
     }
     let places = [places[0], places[1], places[2], places[3]];
-    Ok(Read { start, actions, delay, places })
+    let steps: Vec<(u8, u8)> = c.chunks(3).map(|l| (l[0], l[2])).chain(lines(u, 2)).collect();
+    Ok(Read { start, actions, delay, places, reached: reached(start, &steps).len() })
 }
 
 type Word = Vec<u8>;
@@ -247,7 +262,8 @@ pub fn listing(sheet: &[u8]) -> String {
     let digits = |word: &[u8]| -> String {
         if word.is_empty() { "-".into() } else { word.iter().map(|c| c.to_string()).collect() }
     };
-    let mut text = format!("lag {} positions {} commands {}\n", read.delay, game.positions(), game.actions);
+    let mut text =
+        format!("lag {} positions {} commands {} reached {}\n", read.delay, game.positions(), game.actions, read.reached);
     let pair = |k: usize, delay: u8| {
         let pending = words(game.actions, delay as usize / 2);
         format!("pair {} {}", k / pending.len(), digits(&pending[k % pending.len()]))

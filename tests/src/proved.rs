@@ -2,7 +2,7 @@
 use crate::naive::Read;
 
 extern "C" {
-    fn lq_read(sheet: *const u8, sheet_len: usize, header: *mut u8, places: *mut usize) -> u8;
+    fn lq_read(sheet: *const u8, sheet_len: usize, header: *mut u8, places: *mut usize, reached: *mut usize) -> u8;
     fn lq_solve(
         sheet: *const u8,
         sheet_len: usize,
@@ -11,6 +11,7 @@ extern "C" {
         ranks: *mut u16,
         ranks_len: usize,
         losing: *mut u8,
+        reached: *mut usize,
     ) -> u8;
     fn lq_make(
         sheet: *const u8,
@@ -23,6 +24,7 @@ extern "C" {
         out_len: usize,
         size: *mut usize,
         losing: *mut u8,
+        reached: *mut usize,
     ) -> u8;
     fn lq_masks(sheet: *const u8, sheet_len: usize, place: *mut usize) -> u8;
     fn lq_open(sheet: *const u8, sheet_len: usize, state: *mut u8) -> u8;
@@ -37,9 +39,12 @@ pub const WINS: u8 = 255;
 pub fn read(sheet: &[u8]) -> Result<Read, u8> {
     let mut header = [0xa5u8; 3];
     let mut places = [0x5a5ausize; 8];
-    let number = unsafe { lq_read(sheet.as_ptr(), sheet.len(), header.as_mut_ptr(), places.as_mut_ptr()) };
+    let mut reached = 0x5a5a;
+    let number =
+        unsafe { lq_read(sheet.as_ptr(), sheet.len(), header.as_mut_ptr(), places.as_mut_ptr(), &mut reached) };
     if number != 0 {
-        assert_eq!((header, places), ([0xa5; 3], [0x5a5a; 8]), "a refused reading altered what was lent");
+        let after = (header, places, reached);
+        assert_eq!(after, ([0xa5; 3], [0x5a5a; 8], 0x5a5a), "a refused reading altered what was lent");
         return Err(number);
     }
     Ok(Read {
@@ -47,16 +52,27 @@ pub fn read(sheet: &[u8]) -> Result<Read, u8> {
         actions: header[1],
         delay: header[2],
         places: [0, 1, 2, 3].map(|k| (places[2 * k], places[2 * k + 1])),
+        reached,
     })
 }
 
-fn losing_lag(losing: u8) -> Option<u8> {
-    if losing == WINS { None } else { Some(losing) }
+/// What solving and making answer beside their tables.
+#[derive(Clone, Copy, Debug, PartialEq, Eq)]
+pub struct Answer {
+    /// The losing lag, or none where the asked lag wins.
+    pub losing: Option<u8>,
+    pub reached: usize,
 }
 
-/// None where the asked lag wins, the losing lag, or the refusal's number.
-pub fn solve(sheet: &[u8], masks: &mut [u8], ranks: &mut [u16]) -> Result<Option<u8>, u8> {
-    let mut losing = 0x5a;
+impl Answer {
+    fn new(losing: u8, reached: usize) -> Answer {
+        Answer { losing: (losing != WINS).then_some(losing), reached }
+    }
+}
+
+/// The answer, or the refusal's number.
+pub fn solve(sheet: &[u8], masks: &mut [u8], ranks: &mut [u16]) -> Result<Answer, u8> {
+    let (mut losing, mut reached) = (0x5a, 0x5a5a);
     let number = unsafe {
         lq_solve(
             sheet.as_ptr(),
@@ -66,21 +82,22 @@ pub fn solve(sheet: &[u8], masks: &mut [u8], ranks: &mut [u16]) -> Result<Option
             ranks.as_mut_ptr(),
             ranks.len(),
             &mut losing,
+            &mut reached,
         )
     };
     if number != 0 {
-        assert_eq!(losing, 0x5a, "a refused solving altered what was lent");
+        assert_eq!((losing, reached), (0x5a, 0x5a5a), "a refused solving altered what was lent");
         return Err(number);
     }
-    Ok(losing_lag(losing))
+    Ok(Answer::new(losing, reached))
 }
 
-/// The sheet made into an output of so many bytes, and the losing lag; nothing beyond the sheet is altered, and nothing by a refusal.
-pub fn make(sheet: &[u8], masks: &mut [u8], ranks: &mut [u16], room: usize) -> Result<(Vec<u8>, Option<u8>), u8> {
+/// The sheet made into an output of so many bytes, and the answer; nothing beyond the sheet is altered, and nothing by a refusal.
+pub fn make(sheet: &[u8], masks: &mut [u8], ranks: &mut [u16], room: usize) -> Result<(Vec<u8>, Answer), u8> {
     let before: Vec<u8> = (0..room).map(|k| (k * 31 + 7) as u8).collect();
     let buffers = (masks.to_vec(), ranks.to_vec());
     let mut out = before.clone();
-    let (mut size, mut losing) = (0x5a5a, 0x5a);
+    let (mut size, mut losing, mut reached) = (0x5a5a, 0x5a, 0x5a5a);
     let number = unsafe {
         lq_make(
             sheet.as_ptr(),
@@ -93,16 +110,18 @@ pub fn make(sheet: &[u8], masks: &mut [u8], ranks: &mut [u16], room: usize) -> R
             out.len(),
             &mut size,
             &mut losing,
+            &mut reached,
         )
     };
     if number != 0 {
-        assert_eq!((size, losing, &out), (0x5a5a, 0x5a, &before), "a refused making altered what was lent");
+        let after = (size, losing, reached, &out);
+        assert_eq!(after, (0x5a5a, 0x5a, 0x5a5a, &before), "a refused making altered what was lent");
         assert_eq!((masks.to_vec(), ranks.to_vec()), buffers, "a refused making altered the buffers");
         return Err(number);
     }
     assert_eq!(out[size..], before[size..], "bytes beyond the made sheet were altered");
     out.truncate(size);
-    Ok((out, losing_lag(losing)))
+    Ok((out, Answer::new(losing, reached)))
 }
 
 /// Offset and length of the T body of a winning sheet.

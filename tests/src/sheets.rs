@@ -49,6 +49,22 @@ impl Yard {
     pub fn pairs(&self) -> usize {
         self.kinds.len() * (self.actions as usize).pow(self.delay as u32 / 2)
     }
+
+    /// The length that refusal 9 asks for, at the asked lag.
+    pub fn owed_length(&self) -> usize {
+        19 + (self.actions as usize).pow((self.delay as u32 + 1) / 2) + 2 * self.pairs()
+    }
+
+    /// The same yard, its positions numbered from the other end.
+    pub fn turned(&self) -> Yard {
+        let number = |p: u8| (self.kinds.len() - 1) as u8 - p;
+        let mut targets: Vec<_> = self.targets.iter().map(|&[p, c, q]| [number(p), c, number(q)]).collect();
+        let mut moves: Vec<_> = self.moves.iter().map(|line| line.map(number)).collect();
+        targets.sort_unstable();
+        moves.sort_unstable();
+        let kinds = self.kinds.iter().rev().copied().collect();
+        Yard { start: number(self.start), kinds, targets, moves, ..*self }
+    }
 }
 
 fn yard(actions: u8, kinds: &[u8], targets: &[[u8; 3]], moves: &[[u8; 2]]) -> Yard {
@@ -84,6 +100,21 @@ pub fn long_hall() -> Yard {
         &[[0, 0, 6], [0, 1, 6], [1, 0, 7], [1, 1, 7], [2, 0, 8], [2, 1, 8], [3, 0, 9], [3, 1, 9], [4, 0, 10], [5, 1, 10]],
         &[[6, 2], [7, 3], [8, 4], [9, 5], [10, 0], [10, 1]],
     )
+}
+
+/// The guess yard without its moves 0 1 3 and 2 1: from the start, positions 1 and 3 are cut off.
+pub fn cut_guess() -> Yard {
+    yard(2, &[0, 0, 2, 3], &[[0, 0, 2], [1, 0, 3], [1, 1, 2]], &[[2, 0], [3, 0]])
+}
+
+/// A chain: from each own position the yard goes one on, the last is unsafe, so that every round strikes one position more.
+pub fn chain(links: usize) -> Yard {
+    let own = |k: usize| (2 * k) as u8;
+    let other = |k: usize| (2 * k + 1) as u8;
+    let kinds = (0..links).flat_map(|k| [u8::from(k + 1 == links), 2]).collect();
+    let targets = (0..links).flat_map(|k| [[own(k), 0, other(k)], [own(k), 1, other(k)]]).collect();
+    let moves = (0..links).map(|k| [other(k), own((k + 1) % links)]).collect();
+    Yard { start: 0, actions: 2, delay: 0, kinds, targets, moves }
 }
 
 /// What a random yard is drawn from.

@@ -3,35 +3,31 @@
 use loquatquoits_tests::cabin::{self, Bytes, Cabin, Table};
 use loquatquoits_tests::counts::{count, report, Counts};
 use loquatquoits_tests::naive::{self, Game, Rule, Verdict};
-use loquatquoits_tests::proved;
+use loquatquoits_tests::proved::{self, Answer};
 use loquatquoits_tests::random::Random;
 use loquatquoits_tests::sheets::{self, house, random_yard, Shape, Yard};
 
 /// The sheet that making must write, or nothing where the yard's sheet is refused: document 01, "Sheets".
-fn naive_sheet(sheet: &[u8]) -> Option<(Vec<u8>, Option<u8>)> {
+fn naive_sheet(sheet: &[u8]) -> Option<(Vec<u8>, Answer)> {
     let read = naive::read(sheet).ok()?;
+    let answer = |losing: Option<u8>| Answer { losing, reached: read.reached };
     let game = Game::of(sheet, &read);
     let highest = (game.positions() - 1) as u8;
     Some(match game.solve(read.delay, Rule::Document) {
         Verdict::Winning(level) => {
             let flags: Vec<u8> = level.good.iter().map(|&good| u8::from(good)).collect();
             let header = [read.start, read.actions, read.delay, highest];
-            (house(&[(b'S', &header), (b'W', &flags), (b'T', &level.masks)]), None)
+            (house(&[(b'S', &header), (b'W', &flags), (b'T', &level.masks)]), answer(None))
         }
         Verdict::Losing(m, level) => {
             let ranks: Vec<u8> = level.ranks.iter().flat_map(|rank| rank.to_le_bytes()).collect();
             let header = [read.start, read.actions, m, highest];
-            (house(&[(b'S', &header), (b'R', &ranks)]), Some(m))
+            (house(&[(b'S', &header), (b'R', &ranks)]), answer(Some(m)))
         }
     })
 }
 
-/// The length that refusal 9 asks for, at the asked lag.
-fn owed_length(yard: &Yard) -> usize {
-    19 + (yard.actions as usize).pow((yard.delay as u32 + 1) / 2) + 2 * yard.pairs()
-}
-
-fn make(yard: &Yard, room: usize) -> Result<(Vec<u8>, Option<u8>), u8> {
+fn make(yard: &Yard, room: usize) -> Result<(Vec<u8>, Answer), u8> {
     let n = yard.pairs();
     proved::make(&yard.sheet(), &mut vec![0; n], &mut vec![0; n], room)
 }
@@ -54,10 +50,10 @@ fn made_sheets() {
     for _ in 0..1500 {
         let shape = small_shape(&mut random);
         let yard = random_yard(&mut random, &shape).at(random.below(7) as u8);
-        let owed = owed_length(&yard);
-        let (expected, losing) = naive_sheet(&yard.sheet()).unwrap();
-        assert_eq!(make(&yard, owed + random.below(5)), Ok((expected, losing)));
-        count(&mut counts, if losing.is_none() { "winning sheet".into() } else { "losing sheet".into() });
+        let owed = yard.owed_length();
+        let (expected, answer) = naive_sheet(&yard.sheet()).unwrap();
+        assert_eq!(make(&yard, owed + random.below(5)), Ok((expected, answer)));
+        count(&mut counts, if answer.losing.is_none() { "winning sheet".into() } else { "losing sheet".into() });
         assert_eq!(make(&yard, owed - 1), Err(9));
         count(&mut counts, "refused 9".into());
     }
@@ -101,8 +97,8 @@ fn winning(random: &mut Random) -> (Yard, Vec<u8>) {
     loop {
         let shape = small_shape(random);
         let yard = random_yard(random, &shape).at(random.below(7) as u8);
-        let (sheet, losing) = naive_sheet(&yard.sheet()).unwrap();
-        if losing.is_none() {
+        let (sheet, answer) = naive_sheet(&yard.sheet()).unwrap();
+        if answer.losing.is_none() {
             return (yard, sheet);
         }
     }
@@ -262,8 +258,8 @@ fn last_turn() {
 /// Document 01's cabin cases in the sorting hall at lag 2.
 #[test]
 fn hall_cases() {
-    let (sheet, losing) = make(&sheets::hall().at(2), 1000).unwrap();
-    assert_eq!(losing, None);
+    let (sheet, answer) = make(&sheets::hall().at(2), 1000).unwrap();
+    assert_eq!(answer, Answer { losing: None, reached: 7 });
     let mut state = proved::open(&sheet).unwrap();
     assert_eq!(proved::act(&sheet, &mut state), Ok(0));
     assert_eq!(proved::act(&sheet, &mut state), Err(13));

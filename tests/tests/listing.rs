@@ -67,8 +67,9 @@ fn full_device() {
 
 #[test]
 fn document_01() {
-    let expected = "lag 1 positions 4 commands 2\nlosing 1\npair 2 - rank 2\npair 3 - rank 1\n";
+    let expected = "lag 1 positions 4 commands 2 reached 4\nlosing 1\npair 2 - rank 2\npair 3 - rank 1\n";
     assert_eq!(list(&sheets::guess().at(1).sheet()), expected);
+    assert!(list(&sheets::cut_guess().at(1).sheet()).starts_with("lag 1 positions 4 commands 2 reached 2\n"));
     assert_eq!(list(&sheets::looped().at(7).sheet()), "refused 3\n");
     assert_eq!(list(b""), "refused 1\n");
 }
@@ -107,6 +108,7 @@ fn largest_output() {
 fn random_sheets() {
     let mut random = Random::new(99);
     let mut kinds = [0; 3];
+    let mut cut_off = 0;
     for round in 0..400 {
         let shape = Shape {
             own: 1 + random.below(5),
@@ -126,7 +128,8 @@ fn random_sheets() {
         let text = list(&sheet);
         assert_eq!(text, naive::listing(&sheet));
         kinds[if text.starts_with("refused") { 0 } else if text.contains("\nwinning\n") { 1 } else { 2 }] += 1;
+        cut_off += usize::from(naive::read(&sheet).is_ok_and(|read| read.reached < read.places[1].1));
     }
-    println!("listings: {} refused, {} winning, {} losing", kinds[0], kinds[1], kinds[2]);
-    assert!(kinds.iter().all(|&n| n > 0));
+    println!("listings: {} refused, {} winning, {} losing, {cut_off} partly cut off", kinds[0], kinds[1], kinds[2]);
+    assert!(kinds.iter().chain([&cut_off]).all(|&n| n > 0));
 }

@@ -2,7 +2,7 @@
 //! of the naive solver that is wrong makes these fail: set NAIVE_RULE to strike-once, freshest-action or pass-unsafe and see.
 use loquatquoits_tests::counts::{count, report, Counts};
 use loquatquoits_tests::naive::{self, Game, Rule, Verdict};
-use loquatquoits_tests::proved;
+use loquatquoits_tests::proved::{self, Answer};
 use loquatquoits_tests::random::Random;
 use loquatquoits_tests::sheets::{self, random_yard, Shape, Yard};
 use loquatquoits_tests::worst::{fan, standing, worst, Worst};
@@ -36,7 +36,8 @@ fn compare(sheet: &[u8], counts: &mut Counts) {
     let r = match read {
         Err(number) => {
             assert_eq!(answer, Err(number));
-            assert_eq!((masks, ranks), (masks_before, ranks_before), "a refusal altered the buffers");
+            assert_eq!((&masks, &ranks), (&masks_before, &ranks_before), "a refusal altered the buffers");
+            assert_eq!(proved::make(sheet, &mut masks, &mut ranks, 64), Err(number));
             return count(counts, format!("refused {number}"));
         }
         Ok(r) => r,
@@ -45,7 +46,7 @@ fn compare(sheet: &[u8], counts: &mut Counts) {
         Verdict::Winning(level) => (None, level),
         Verdict::Losing(m, level) => (Some(m), level),
     };
-    assert_eq!(answer, Ok(expected), "{sheet:?}");
+    assert_eq!(answer, Ok(Answer { losing: expected, reached: r.reached }), "{sheet:?}");
     let owed = level.masks.len();
     assert_eq!(masks[..owed], level.masks[..], "masks of {sheet:?}");
     assert_eq!(ranks[..owed], level.ranks[..], "ranks of {sheet:?}");
@@ -58,13 +59,14 @@ fn compare(sheet: &[u8], counts: &mut Counts) {
     short_buffers(sheet, room, counts);
 }
 
-/// Either buffer one entry short is refused, and nothing is touched.
+/// Either buffer one entry short is refused, by making before it looks at the output, and nothing is touched.
 fn short_buffers(sheet: &[u8], room: usize, counts: &mut Counts) {
     for (masks_room, ranks_room) in [(room - 1, room), (room, room - 1)] {
         let (masks_before, _) = pattern(masks_room);
         let (_, ranks_before) = pattern(ranks_room);
         let (mut masks, mut ranks) = (masks_before.clone(), ranks_before.clone());
         assert_eq!(proved::solve(sheet, &mut masks, &mut ranks), Err(8));
+        assert_eq!(proved::make(sheet, &mut masks, &mut ranks, 0), Err(8));
         assert_eq!((masks, ranks), (masks_before, ranks_before), "refusal 8 altered the buffers");
         count(counts, "refused 8".into());
     }
@@ -74,7 +76,7 @@ fn solve(yard: &Yard) -> (Option<u8>, Vec<u8>, Vec<u16>) {
     let n = yard.pairs();
     let (mut masks, mut ranks) = (vec![0; n], vec![0; n]);
     let answer = proved::solve(&yard.sheet(), &mut masks, &mut ranks).unwrap();
-    (answer, masks, ranks)
+    (answer.losing, masks, ranks)
 }
 
 #[test]
