@@ -1,9 +1,14 @@
 -- Every case of specs/cases/Games.antt holds of the definitions, by computation. Assumes nothing.
 use mathlib.Core.Path.{_≡_, refl}
 use mathlib.Core.List.{map}
-use Rattle.theory.specs.cases.Games.{targetFrom, movesFrom, gameFrom, resultBy, resultOf, passing, chosen, slow, chained, turned, cases}
+use Rattle.theory.specs.Reach.{reached}
+use Rattle.theory.specs.cases.Games.{targetFrom, movesFrom, gameFrom, resultBy, resultOf, passing, chosen, slow, chained, turned, cases, cut, reachedGames, reachedNumbers}
 use Rattle.theory.proofs.Computing.{theory-computes}
 
 pub cases-met : map (λ c. resultOf (c .game) (c .delay)) cases ≡ map (λ c. c .result) cases
 unfolding theory-computes targetFrom movesFrom gameFrom resultBy resultOf passing chosen slow chained turned cases
 cases-met = refl
+
+pub reached-met : map reached reachedGames ≡ reachedNumbers
+unfolding theory-computes targetFrom movesFrom gameFrom passing slow cut reachedGames reachedNumbers
+reached-met = refl

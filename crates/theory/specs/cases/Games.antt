@@ -90,3 +90,14 @@ cases =
     ∷ (case chained 1 (losesAt 0 (2 ∷ 3 ∷ 0 ∷ 0 ∷ [])))
     ∷ (case turned 1 (losesAt 1 (0 ∷ 0 ∷ 0 ∷ 2 ∷ 3 ∷ [])))
     ∷ []
+
+-- W-201's yard: the guess yard with "its moves 0 1 3 and 2 1 left out"
+unfoldable pub cut : Game
+cut = gameFrom 2 (0 ∷ 0 ∷ 2 ∷ 3 ∷ []) (0 ∷ 0 ∷ 2 ∷ 1 ∷ 0 ∷ 3 ∷ 1 ∷ 1 ∷ 2 ∷ []) (2 ∷ 0 ∷ 3 ∷ 0 ∷ [])
+
+-- how many positions lie on plays: in `passing` the last action alone leads on to 1, and in `slow` the last is four moves away
+unfoldable pub reachedGames : List Game
+reachedGames = passing ∷ slow ∷ cut ∷ []
+
+unfoldable pub reachedNumbers : List ℕ
+reachedNumbers = 4 ∷ 5 ∷ 2 ∷ []
