@@ -10,10 +10,10 @@ use borrow.Author.Tests.{le-leb}
 use Rattle.theory.specs.Answer.{accepted, onAccepted}
 use Rattle.theory.specs.Game.{Game, Legal}
 use Rattle.theory.specs.Rounds.{finalRanks, masks, kept}
-use Rattle.theory.specs.Delay.{Verdict, losing, arena, answer}
+use Rattle.theory.specs.Delay.{losing, arena, answer}
 use Rattle.theory.specs.Table.{bit, allows, ours}
 use Rattle.theory.proofs.Fold.{both-true}
-use Rattle.theory.proofs.Answer.{check-passed, check-accepted, accepted-on}
+use Rattle.theory.proofs.Answer.{check-passed}
 use Rattle.theory.proofs.Rounds.{final-length, final-round}
 use Rattle.theory.proofs.Region.{kept-is, region-closed, region-largest, length-masks}
 use Rattle.theory.proofs.Tables.{step-legal}
@@ -25,6 +25,7 @@ use Rattle.sheet.specs.SheetGame.{gameOf}
 use Rattle.sheet.specs.declared.reading.Layout.{Layout}
 use Rattle.sheet.proofs.Legality.{legal-game}
 use Rattle.solver.specs.Solving.{Solved, solveAnswer, solvedDelay, masksLeft, ranksLeft}
+use Rattle.solver.proofs.Accepted.{solved-is}
 use Rattle.theory.specs.Buffer.{over}
 use Rattle.theory.proofs.Buffer.{over-front, over-beyond}
 use Rattle.claims.specs.Demand2.{Demand2, IsKept, StaysIn, WinningSet, TableFor, FallsIn}
@@ -71,30 +72,18 @@ module _ (G : Game) (legal : Legal G) (d : ℕ) (mask-buffer rank-buffer : List 
       }
 
 module _ (s mask-buffer rank-buffer : List ℕ) where
-  -- what an accepted answer says
-  accepted-is : (a : Solved) → solveAnswer s (length mask-buffer) (length rank-buffer) ≡ accepted a
-      → (l : Layout) × (readAnswer s ≡ accepted l) × (a .verdict ≡ answer (gameOf s) (delayOf s))
-  unfolding solveAnswer
-  accepted-is a e =
-      let x = accepted-on (readAnswer s) _ e in
-      let y = check-accepted _ 8 _ (x .2) in
-      (x .0, x .1, sym (same (y .1)))
-    where
-      same : {v : Verdict} {l : Layout} → accepted (record { verdict = v; layout = l }) ≡ accepted a → v ≡ a .verdict
-      same q = cc
-
   -- the theorem
   pub demand-2 : (a : Solved) → solveAnswer s (length mask-buffer) (length rank-buffer) ≡ accepted a → Demand2 s a mask-buffer rank-buffer
   unfolding masksLeft ranksLeft
   demand-2 a e =
-      let x = accepted-is a e in
-      let legal = legal-game s (x .0) (x .1) in
+      let x = solved-is s _ _ a e in
+      let legal = legal-game s (a .layout) (x .0) in
       let i = answer-iff (gameOf s) legal (delayOf s) in
       record {
-        winning = (λ v. i .0 (sym (x .2) ∙ v), λ w. x .2 ∙ i .1 w);
+        winning = (λ v. i .0 (x .1 ∙ v), λ w. sym (x .1) ∙ i .1 w);
         losing =
             λ m v.
-            let l = answer-least (gameOf s) legal (delayOf s) m (sym (x .2) ∙ v) in
+            let l = answer-least (gameOf s) legal (delayOf s) m (x .1 ∙ v) in
             record { within = l .asked; none = l .none; below = l .least };
         table = table-is (gameOf s) legal (solvedDelay (delayOf s) (a .verdict)) mask-buffer rank-buffer;
       }

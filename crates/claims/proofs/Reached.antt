@@ -1,12 +1,12 @@
 -- W-201 over bytes (specs/Reached.antt): the number that reading, solving and making carry in every accepted answer. Assumes nothing.
 use Prim.Native.Nat.{ℕ}
-use mathlib.Core.Path.{_≡_, refl, sym, _∙_, ap}
+use mathlib.Core.Path.{_≡_, sym, _∙_, ap}
 use mathlib.Core.Bool.{false}
 use mathlib.Core.List.{List}
 use lib.ListN.{getD}
-use Rattle.theory.specs.Answer.{accepted, onAccepted}
+use Rattle.theory.specs.Answer.{accepted}
 use Rattle.theory.specs.Reach.{marksAfter, reached}
-use Rattle.theory.proofs.Answer.{check-accepted, accepted-same, accepted-on}
+use Rattle.theory.proofs.Answer.{accepted-same, accepted-on}
 use Rattle.theory.proofs.Reach.{reached-is, reached-count}
 use Rattle.sheet.specs.Reading.{readAnswer}
 use Rattle.sheet.specs.SheetGame.{gameOf}
@@ -14,7 +14,10 @@ use Rattle.sheet.specs.declared.reading.Layout.{Layout}
 use Rattle.sheet.proofs.Accepted.{carries}
 use Rattle.sheet.proofs.Legality.{legal-game}
 use Rattle.solver.specs.Solving.{Solved, solveAnswer}
-use Rattle.maker.specs.Making.{Made, won, lost, Measured, makeAnswer, measureOf, measured, madeAnswer}
+use Rattle.solver.proofs.Accepted.{solved-is}
+use Rattle.maker.specs.Making.{Measured, measured, madeAnswer}
+use Rattle.maker.proofs.Made.{made-parts}
+use Rattle.maker.proofs.SolvedLaws.{measure-is}
 use Rattle.claims.specs.Reached.{Reaches}
 
 -- an accepted sheet's number is that of its game
@@ -31,28 +34,14 @@ pub reached-bytes : (s : List ℕ) (l : Layout) → readAnswer s ≡ accepted l 
 reached-bytes s l e = rw (carries s l e .reached) (game-reached s l e)
 
 -- solving carries what the reading did
-
-solved-read : (s : List ℕ) (masks ranks : ℕ) (a : Solved) → solveAnswer s masks ranks ≡ accepted a → readAnswer s ≡ accepted (a .layout)
-unfolding solveAnswer
-solved-read s masks ranks a e =
-    let x = accepted-on (readAnswer s) _ e in
-    let c = check-accepted _ _ _ (x .2) in
-    x .1 ∙ ap accepted (ap (λ (a : Solved). a .layout) (accepted-same (c .1)))
-
 pub reached-solved : (s : List ℕ) (masks ranks : ℕ) (a : Solved) → solveAnswer s masks ranks ≡ accepted a → Reaches s (a .layout .reached)
-reached-solved s masks ranks a e = reached-bytes s (a .layout) (solved-read s masks ranks a e)
+reached-solved s masks ranks a e = reached-bytes s (a .layout) (solved-is s masks ranks a e .0)
 
 -- and so does making
-
-measured-number : (k : ℕ) (x : Made) → measureOf k x .reached ≡ k
-unfolding measureOf
-measured-number k (won t) = refl
-measured-number k (lost m t) = refl
-
 pub reached-made : (s masks ranks out : List ℕ) (a : Measured) → madeAnswer s masks ranks out ≡ accepted a → Reaches s (a .reached)
-unfolding measured makeAnswer
+unfolding measured
 reached-made s masks ranks out a e =
     let x = accepted-on _ _ e in
-    let same : reached (gameOf s) ≡ a .reached = sym (measured-number (reached (gameOf s)) (x .0)) ∙ ap (λ (a : Measured). a .reached) (accepted-same (x .2)) in
-    let y = accepted-on _ _ (x .1) in
-    rw (sym same) (game-reached s (y .0 .layout) (solved-read s _ _ (y .0) (y .1)))
+    let number = ap (λ (a : Measured). a .reached) (sym (accepted-same (x .2)) ∙ measure-is (reached (gameOf s)) (x .0)) in
+    let made = made-parts s _ _ _ (x .0) (x .1) in
+    rw number (game-reached s (made .layout) (made .reads))

@@ -9,7 +9,6 @@ use borrow.Author.Needs.{needs}
 use Rattle.theory.specs.Answer.{Answer, refused, accepted}
 use Rattle.theory.specs.Rounds.{masks, finalRanks}
 use Rattle.theory.specs.Delay.{wins, losing, arena, answer}
-use Rattle.theory.proofs.Answer.{check-accepted, accepted-on}
 use Rattle.theory.proofs.Rounds.{final-length}
 use Rattle.theory.proofs.Region.{length-masks}
 use Rattle.theory.proofs.Monotone.{answer-least}
@@ -26,6 +25,7 @@ use Rattle.sheet.proofs.SizeLaws.{nodes-small}
 use Rattle.text.specs.Page.{Page, puts}
 use Rattle.text.specs.Lines.{refusedLine}
 use Rattle.solver.specs.Solving.{Solved, solveAnswer, solvedDelay, masksLeft, ranksLeft, solutionMeans}
+use Rattle.solver.proofs.Accepted.{solved-is}
 use Rattle.theory.specs.Buffer.{over}
 use Rattle.solver.specs.declared.solve.Solution.{Solution}
 use Rattle.solver.specs.declared.solve.Solution.the-variants as solution
@@ -33,19 +33,6 @@ use Rattle.lister.specs.Listing.{wonText, lostText, gameText, solvedText
 use Rattle.lister.specs.code.Parts.{flagsIn, wonBy, lostBy}
 use Rattle.theory.proofs.Buffer.{over-first, over-room}
 use Rattle.lister.proofs.Words.{flags-are}
-
--- what solving accepts was read, and its verdict is the answer
-
-pub solved-is : (s : List ℕ) (m n : ℕ) (a : Solved) → solveAnswer s m n ≡ accepted a
-    → (readAnswer s ≡ accepted (a .layout)) × (answer (gameOf s) (delayOf s) ≡ a .verdict)
-unfolding solveAnswer
-solved-is s m n a e =
-    let o = accepted-on (readAnswer s) _ e in
-    let c = check-accepted _ _ _ (o .2) in
-    (o .1 ∙ ap accepted (ap (λ (x : Solved). x .layout) (same (c .1))), ap (λ (x : Solved). x .verdict) (same (c .1)))
-  where
-    same : {x y : Solved} → accepted x ≡ accepted y → x ≡ y
-    same q = cc
 
 -- an accepted sheet's numbers are small: the positions fit two bytes, and n nodes at a delay of at most the asked one are counted
 -- right

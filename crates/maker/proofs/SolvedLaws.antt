@@ -46,7 +46,7 @@ abbrev bytesIn : Made → List ℕ
 bytesIn (won t) = t
 bytesIn (lost m t) = t
 
-measure-is : (k : ℕ) (x : Made) → measureOf k x ≡ record { verdict = verdictIn x; size = length (bytesIn x); reached = k }
+pub measure-is : (k : ℕ) (x : Made) → measureOf k x ≡ record { verdict = verdictIn x; size = length (bytesIn x); reached = k }
 unfolding measureOf
 measure-is k (won t) = refl
 measure-is k (lost m t) = refl

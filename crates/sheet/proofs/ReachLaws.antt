@@ -37,12 +37,12 @@ module _ (f : ℕ → Bool) (m : List Bool) where
   unfolding marksWith
   length-marks = length-tabulate _ 0 mostPositions
 
-  pub mark-with : (r : ℕ) → r < mostPositions → marked (marksWith f m) r ≡ either (marked m r) (f r)
+  mark-with : (r : ℕ) → r < mostPositions → marked (marksWith f m) r ≡ either (marked m r) (f r)
   unfolding marksWith marked
   mark-with r h = getD-tabulate (λ r. either (marked m r) (f r)) mostPositions r false h
 
   -- what has a mark then had one or passes the test
-  pub mark-cases : (r : ℕ) → marked (marksWith f m) r ≡ true → either (marked m r) (f r) ≡ true
+  mark-cases : (r : ℕ) → marked (marksWith f m) r ≡ true → either (marked m r) (f r) ≡ true
   unfolding marksWith marked
   mark-cases r e =
       ⊎-elim
@@ -61,7 +61,7 @@ module _ (f : ℕ → Bool) (m : List Bool) where
 -- joining
 
 -- nothing joins where all that pass have a mark
-pub grown-same : (f : ℕ → Bool) (w : Queue) → Queued w → ((r : ℕ) → r < mostPositions → f r ≡ true → marked (w .marks) r ≡ true) → Grown f w w
+grown-same : (f : ℕ → Bool) (w : Queue) → Queued w → ((r : ℕ) → r < mostPositions → f r ≡ true → marked (w .marks) r ≡ true) → Grown f w w
 grown-same f w q h =
     record {
       queued = q;
@@ -72,7 +72,7 @@ grown-same f w q h =
       kept = λ i l. refl;
     }
 
-pub grown-join : (f g h : ℕ → Bool) (u v w : Queue) → Grown f u v → Grown g v w → ((r : ℕ) → r < mostPositions → h r ≡ either (f r) (g r)) → Grown h u w
+grown-join : (f g h : ℕ → Bool) (u v w : Queue) → Grown f u v → Grown g v w → ((r : ℕ) → r < mostPositions → h r ≡ either (f r) (g r)) → Grown h u w
 grown-join f g h u v w a b e =
     record {
       queued = b .queued;
@@ -91,7 +91,7 @@ grown-join f g h u v w a b e =
 
 -- a position without a mark joins at the end
 
-module _ (m : List Bool) (q : List ℕ) (n t : ℕ) (w : Queued (queueOf m q n)) (h : t < mostPositions) (f : marked m t ≡ false) where
+module _ (m : List Bool) (q : List ℕ) (n t : ℕ) (w : Queued (queueOf m q n)) (h : t < mostPositions) (f : getD m t false ≡ false) where
   mark-here : marked (set m t true) t ≡ true
   unfolding marked
   mark-here = getD-set-same m t true false (rw (w .marks-length) h)
@@ -101,18 +101,19 @@ module _ (m : List Bool) (q : List ℕ) (n t : ℕ) (w : Queued (queueOf m q n))
   mark-there r d = getD-set-other m t r true false d
 
   one-more : count (marked (set m t true)) mostPositions ≡ n + 1
+  unfolding marked
   one-more =
       count-more (marked m) (marked (set m t true)) t mostPositions h f mark-here mark-there ∙ ap (λ k. k + 1) (sym (w .number))
 
-  pub room-left : n < mostPositions
-  room-left = omega (arith, one-more, count-le (marked (set m t true)) mostPositions)
+  pub join-room : n < mostPositions
+  join-room = omega (arith, one-more, count-le (marked (set m t true)) mostPositions)
 
   mark-stays : (r : ℕ) → marked m r ≡ true → marked (set m t true) r ≡ true
   mark-stays r e =
       ⊎-elim (λ (s : r ≡ t). ap (marked (set m t true)) s ∙ mark-here) (λ (d : r ≡ t → ⊥). mark-there r d ∙ e) (same? r t)
 
   entry-here : getD (set q n t) n 0 ≡ t
-  entry-here = getD-set-same q n t 0 (rw (w .entries-length) room-left)
+  entry-here = getD-set-same q n t 0 (rw (w .entries-length) join-room)
 
   entry-there : (i : ℕ) → i < n → getD (set q n t) i 0 ≡ getD q i 0
   entry-there i l = getD-set-other q n i t 0 (λ e. omega arith)
@@ -145,9 +146,9 @@ module _ (m : List Bool) (q : List ℕ) (n t : ℕ) (w : Queued (queueOf m q n))
           (i .0, omega (arith, i .1), entry-there (i .0) (i .1) ∙ i .2))
           (same? r t)
 
-  pub grown-one : Grown (isPosition t) (queueOf m q n) (queueOf (set m t true) (set q n t) (n + 1))
+  pub join-new : Grown (isPosition t) (queueOf m q n) (queueOf (set m t true) (set q n t) (n + 1))
   unfolding isPosition
-  grown-one =
+  join-new =
       record {
         queued = joined;
         marks =
@@ -161,7 +162,7 @@ module _ (m : List Bool) (q : List ℕ) (n t : ℕ) (w : Queued (queueOf m q n))
         kept = entry-there;
       }
 
--- as the code finds them: there is no such position, or it has a mark
+-- nothing joins where there is no such position, or it has a mark
 
 pub join-none : (m : List Bool) (q : List ℕ) (n t : ℕ) → Queued (queueOf m q n) → mostPositions ≤ t → Grown (isPosition t) (queueOf m q n) (queueOf m q n)
 unfolding isPosition
@@ -172,15 +173,6 @@ pub join-marked : (m : List Bool) (q : List ℕ) (n t : ℕ) → Queued (queueOf
 unfolding isPosition marked
 join-marked m q n t w h =
     grown-same (isPosition t) (queueOf m q n) w (λ r l e. ap (λ k. getD m k false) (eqb-true r t e) ∙ h)
-
-pub join-new : (m : List Bool) (q : List ℕ) (n t : ℕ) → Queued (queueOf m q n) → t < mostPositions → getD m t false ≡ false
-    → Grown (isPosition t) (queueOf m q n) (queueOf (set m t true) (set q n t) (n + 1))
-unfolding marked
-join-new m q n t w h f = grown-one m q n t w h f
-
-pub join-room : (m : List Bool) (q : List ℕ) (n t : ℕ) → Queued (queueOf m q n) → t < mostPositions → getD m t false ≡ false → n < mostPositions
-unfolding marked
-join-room m q n t w h f = room-left m q n t w h f
 
 pub ruleset joining = (needs, join-none, join-marked, join-new)
 
@@ -267,7 +259,7 @@ module _ (G : Game) (legal : Legal G) (few : G .positions ≤ mostPositions) whe
   start-inside : G .start < mostPositions
   start-inside = omega (arith, legal .start-position)
 
-  pub search-start : {u w : Queue} → ((r : ℕ) → marked (u .marks) r ≡ false) → Grown (isPosition (G .start)) u w → Searched G w 0
+  search-start : {u w : Queue} → ((r : ℕ) → marked (u .marks) r ≡ false) → Grown (isPosition (G .start)) u w → Searched G w 0
   unfolding isPosition lastFrom
   search-start {u} {w} none a =
       record {
@@ -288,7 +280,7 @@ module _ (G : Game) (legal : Legal G) (few : G .positions ≤ mostPositions) whe
           (λ (s : eqb r (G .start) ≡ true). record { play = origin; is-play = begun; ends = sym (eqb-true r (G .start) s) })
           (either-cases _ _ e)
 
-  pub search-next : (n q : ℕ) {v w : Queue} → Searched G v n → n < v .size → q ≡ getD (v .entries) n 0 → Grown (leads G q) v w → Searched G w (n + 1)
+  search-next : (n q : ℕ) {v w : Queue} → Searched G v n → n < v .size → q ≡ getD (v .entries) n 0 → Grown (leads G q) v w → Searched G w (n + 1)
   search-next n q {v} {w} s h e a =
       record {
         queued = a .queued;
@@ -323,7 +315,7 @@ module _ (G : Game) (legal : Legal G) (few : G .positions ≤ mostPositions) whe
           ∙ either-right _ _ o)
           (below? i n)
 
-  pub search-done : (n : ℕ) {w : Queue} → Searched G w n → w .size ≤ n → w .size ≡ reached G
+  search-done : (n : ℕ) {w : Queue} → Searched G w n → w .size ≤ n → w .size ≡ reached G
   search-done n {w} s h =
       s .queued .number
       ∙ count-short (marked (w .marks)) (G .positions) mostPositions few outside

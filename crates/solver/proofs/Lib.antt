@@ -20,6 +20,7 @@ pub mod IndexLaws
 pub mod SheetLaws
 pub mod SearchLaws
 pub mod LevelLaws
+pub mod Accepted
 pub mod SolveLaws
 pub mod FlagLaws
 pub mod Cases

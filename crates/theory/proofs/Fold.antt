@@ -382,7 +382,7 @@ count-less p q (suc n) f =
         (λ (l : count p n < count q n). inr (rw e (omega arith)))
         r
 
-pub count-suc : (p : ℕ → Bool) (n : ℕ) → count p (suc n) ≡ count p n + cond (p n) 1 0
+count-suc : (p : ℕ → Bool) (n : ℕ) → count p (suc n) ≡ count p n + cond (p n) 1 0
 unfolding count
 count-suc p n = refl
 
@@ -421,12 +421,12 @@ count-more p q v (suc n) h f t o =
         let s = o m (λ e. omega arith) in
         rw (count-suc q m, count-suc p m, s) (omega arith)
 
--- an entry of a tabulated list, by its index
 any-first : (p : ℕ → Bool) (n : ℕ) → anyBelow p (suc n) ≡ either (p 0) (anyBelow (λ k. p (suc k)) n)
 unfolding anyBelow either
 any-first p zero = sym (either-first (p 0) false refl)
 any-first p (suc n) = rw (any-suc p (suc n), any-first p n) (either-assoc (p 0) _ _)
 
+-- an entry of a tabulated list passes exactly if its index does
 pub any-tabulate : {A : Type 0} (p : A → Bool) (f : ℕ → A) (i n : ℕ) → anyOf p (tabulate f i n) ≡ anyBelow (λ k. p (f (i + k))) n
 any-tabulate p f i zero = rw (tabulate-zero f i, any-of-nil p) (sym (any-none (λ k. p (f (i + k)))))
 any-tabulate p f i (suc n) =

@@ -65,7 +65,7 @@ module _ (G : Game) where
         (either-cases _ _ e)
 
     -- a set with the start that is closed under moves has every position on a play
-    pub closed-on : (f : ℕ → Bool) → f (G .start) ≡ true → ((p q : ℕ) → f p ≡ true → leads G p q ≡ true → f q ≡ true) → (q : ℕ) → OnPlay G q
+    closed-on : (f : ℕ → Bool) → f (G .start) ≡ true → ((p q : ℕ) → f p ≡ true → leads G p q ≡ true → f q ≡ true) → (q : ℕ) → OnPlay G q
         → f q ≡ true
     unfolding lastFrom
     closed-on f begins closed q o = ap f (sym (o .ends)) ∙ along (o .is-play)
@@ -108,7 +108,7 @@ module _ (G : Game) where
       (any-holds (λ p. both (getD (marksAfter G n) p false) (leads G p q)) p (G .positions) (mark-inside n p e) (both-true _ _ e l))
 
   -- what has a mark lies on a play
-  pub marked-on : (n q : ℕ) → mark n q ≡ true → OnPlay G q
+  marked-on : (n q : ℕ) → mark n q ≡ true → OnPlay G q
   unfolding lastFrom markIn
   marked-on zero q e = record { play = origin; is-play = begun; ends = eqb-true (G .start) q (sym (mark-zero q (mark-inside 0 q e)) ∙ e) }
   marked-on (suc n) q e =
