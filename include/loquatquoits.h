@@ -30,6 +30,8 @@
  *   18  the reported index is over the window
  *   19  that index was heard with another position
  *   20  not a state: see the cabin below
+ *   judging a table made elsewhere
+ *   21  the sheets differ in start, number of commands, lag or highest position
  *
  * Checks are made in the order in which each function names them. A refusal alters nothing that was lent.
  *
@@ -66,6 +68,11 @@
 /* What lq_solve and lq_make leave in *losing where the asked lag wins. */
 #define LQ_WINS 255
 
+/* What lq_judge leaves in *verdict: yes, or what offends. */
+#define LQ_SOUND 0
+#define LQ_BAD_WORD 1
+#define LQ_BAD_PAIR 2
+
 #ifdef __cplusplus
 extern "C" {
 #endif
@@ -100,6 +107,24 @@ uint8_t lq_make(const uint8_t *sheet, size_t sheet_len, uint8_t *masks, size_t m
  * caller's sheet.
  */
 uint8_t lq_masks(const uint8_t *sheet, size_t sheet_len, size_t place[2]);
+
+/*
+ * Judges the table of a winning sheet, whoever made it, for a yard: refusals 1 to 7 of the yard sheet, then 10 to 12 of the winning sheet,
+ * then 21. The pairs that have a mask (a mask that is not 0) count as kept and all others as fallen. Accepted: *verdict is LQ_SOUND and
+ * *place 0 exactly if every flagged first word is good, every pair with a mask has the right side and a safe position, and no command in
+ * any mask is spoilt. Else *verdict is LQ_BAD_WORD and *place the number of the first flagged word that is not good; or, if no word
+ * offends, LQ_BAD_PAIR and the number of the first pair that does. A refusal leaves both, and neither sheet is written to.
+ *
+ * The right side is own for an even lag and the yard's for an odd one. A command is spoilt at a pair if, once it joins the word, the oldest
+ * command is not permitted where it is played, or if some choice of the yard passes an unsafe position or leads to a fallen pair. A first
+ * word is good if, for an even lag, the start with that word is kept; for an odd lag, the start is safe and permits the first command, and
+ * its target with the remaining commands is kept.
+ *
+ * A yes means that any choice out of the table wins at its lag, with whatever memory: a flagged first word, then each time a command in the
+ * mask of the needed report's pair. The cabin may be opened on it as on ours. The table need not allow everything, but whatever it flags
+ * and allows, ours does too. A winning sheet from lq_make always gets a yes.
+ */
+uint8_t lq_judge(const uint8_t *sheet, size_t sheet_len, const uint8_t *table, size_t table_len, uint8_t *verdict, size_t *place);
 
 /*
  * The cabin. Its state is LQ_STATE bytes that the caller lends:

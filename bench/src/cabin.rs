@@ -7,12 +7,13 @@ pub struct Cabin {
     window: [Option<u8>; 7],
 }
 
-struct Table<'a> {
-    actions: u8,
-    delay: usize,
-    highest: u8,
-    words: &'a [u8],
-    masks: &'a [u8],
+pub struct Table<'a> {
+    pub start: u8,
+    pub actions: u8,
+    pub delay: usize,
+    pub highest: u8,
+    pub words: &'a [u8],
+    pub masks: &'a [u8],
 }
 
 /// The bytes joined and tested once, which is compiled to vector instructions: at a large table most of a call's time goes here. The top
@@ -21,7 +22,7 @@ fn none_over(bytes: &[u8], top: u8) -> bool {
     bytes.iter().fold(0, |all, &byte| all | byte) <= top
 }
 
-fn read(sheet: &[u8]) -> Option<Table<'_>> {
+pub fn read(sheet: &[u8]) -> Option<Table<'_>> {
     let ([s, words, masks], at) = bodies(sheet, b"SWT")?;
     if at != sheet.len() || s.len() != 4 || s[1] < 1 || s[1] > 8 || s[2] > 6 || s[0] > s[3] {
         return None;
@@ -34,7 +35,7 @@ fn read(sheet: &[u8]) -> Option<Table<'_>> {
         && none_over(words, 1)
         && none_over(masks, ((1u32 << a) - 1) as u8)
         && words.contains(&1);
-    fits.then_some(Table { actions: s[1], delay, highest: s[3], words, masks })
+    fits.then_some(Table { start: s[0], actions: s[1], delay, highest: s[3], words, masks })
 }
 
 impl Cabin {

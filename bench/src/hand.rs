@@ -1,4 +1,6 @@
-//! The same reading and the same rounds written by hand over flat arrays: what an engineer would write without proofs.
+//! The same reading, the same rounds and the same judging written by hand over flat arrays: what an engineer would write without proofs.
+use crate::cabin::Table;
+use loquatquoits_tests::judge::Judgement;
 
 pub struct Hand {
     pub positions: usize,
@@ -212,17 +214,45 @@ impl Hand {
         }
     }
 
+    /// Is a first word good?
+    fn good(&self, odd: bool, power: usize, ranks: &[u16], v: usize) -> bool {
+        if !odd {
+            return ranks[self.start * power + v] == 0;
+        }
+        let target = self.grid[self.start][v / power];
+        self.safe(self.start) && target != ABSENT && ranks[target as usize * power + v % power] == 0
+    }
+
     pub fn wins(&self, delay: usize, ranks: &[u16]) -> bool {
         let odd = delay % 2 == 1;
         let power = self.actions.pow(delay as u32 / 2);
-        if !odd {
-            return (0..power).any(|v| ranks[self.start * power + v] == 0);
+        let words = if odd { power * self.actions } else { power };
+        (0..words).any(|v| self.good(odd, power, ranks, v))
+    }
+
+    /// What is said of a table, or none where the sheets differ in a number. Pairs without a mask count as fallen, in round 1.
+    pub fn judge(&self, table: &Table) -> Option<Judgement> {
+        let numbers = [table.start as usize, table.actions as usize, table.delay, table.highest as usize + 1];
+        if numbers != [self.start, self.actions, self.delay, self.positions] {
+            return None;
         }
-        self.safe(self.start)
-            && (0..power * self.actions).any(|v| {
-                let target = self.grid[self.start][v / power];
-                target != ABSENT && ranks[target as usize * power + v % power] == 0
-            })
+        let odd = self.delay % 2 == 1;
+        let power = self.actions.pow(self.delay as u32 / 2);
+        let masks = table.masks;
+        let ranks: Vec<u16> = masks.iter().map(|&mask| u16::from(mask == 0)).collect();
+        let bad_word = |&v: &usize| table.words[v] == 1 && !self.good(odd, power, &ranks, v);
+        if let Some(v) = (0..table.words.len()).find(bad_word) {
+            return Some(Judgement::Word(v));
+        }
+        let barred = (0..self.positions).filter(|&p| self.own(p) == odd || !self.safe(p));
+        let mut first = barred.flat_map(|p| p * power..(p + 1) * power).find(|&k| masks[k] != 0).unwrap_or(usize::MAX);
+        self.each(odd, power, |k, p, h, rest| {
+            let spoilt = |c: usize| masks[k] >> c & 1 == 1 && self.spoilt_at(odd, power, &ranks, 1, p, h, rest, c);
+            if k < first && (0..self.actions).any(spoilt) {
+                first = k;
+            }
+        });
+        Some(if first == usize::MAX { Judgement::Sound } else { Judgement::Pair(first) })
     }
 
     /// None where the asked lag wins, else the losing lag; the buffers as the proved solver fills them.

@@ -1,5 +1,6 @@
-//! The proved solver against two hand-written versions of the same rounds, and the proved reader and the proved cabin against hand-written
-//! ones, in one run on one machine.
+//! The proved solver against two hand-written versions of the same rounds, and the proved reader, the proved judge and the proved cabin
+//! against hand-written ones, in one run on one machine.
+use loquatquoits_tests::judge::Judgement;
 use loquatquoits_tests::naive::{self, Game, Rule, Verdict};
 use loquatquoits_tests::proved;
 use loquatquoits_tests::random::Random;
@@ -134,21 +135,24 @@ fn winning_yard(random: &mut Random, shape: &Shape, delay: u8) -> Yard {
 
 /// A yard with as many pairs as there may be, which wins: any command leads round.
 fn round_about() -> Yard {
-    let own = |k: usize| (2 * k) as u8;
-    let other = |k: usize| (2 * k + 1) as u8;
-    let targets = (0..128).flat_map(|k| (0..8).map(move |c| [own(k), c, other(k)])).collect();
-    let moves = (0..128).map(|k| [other(k), own((k + 1) % 128)]).collect();
-    Yard { start: 0, actions: 8, delay: 4, kinds: (0..256).map(|p| if p % 2 == 0 { 0 } else { 2 }).collect(), targets, moves }
+    around(128, 1, 1, 4)
 }
 
 /// The positions of `round_about` with every command and as many moves as there may be, each leading a few positions on.
 fn dense() -> Yard {
-    let own = |k: usize| (2 * (k % 128)) as u8;
+    around(128, 8, 32, 4)
+}
+
+/// So many own positions and as many of the yard's, in turn: the commands lead to so many of the next ones, and each yard position moves
+/// to so many.
+fn around(own_positions: usize, targets: usize, moves: usize, delay: u8) -> Yard {
+    let own = |k: usize| (2 * (k % own_positions)) as u8;
     let other = |k: usize| own(k) + 1;
-    let targets = (0..128).flat_map(|k| (0..8).map(move |c| [own(k), c as u8, other(k + c)])).collect();
-    let mut moves: Vec<_> = (0..128).flat_map(|k| (1..=32).map(move |on| [other(k), own(k + on)])).collect();
-    moves.sort_unstable();
-    Yard { targets, moves, ..round_about() }
+    let lines = |k: usize| (0..8).map(move |c| [own(k), c as u8, other(k + c % targets)]);
+    let mut to: Vec<_> = (0..own_positions).flat_map(|k| (1..=moves).map(move |on| [other(k), own(k + on)])).collect();
+    to.sort_unstable();
+    let targets = (0..own_positions).flat_map(lines).collect();
+    Yard { start: 0, actions: 8, delay, kinds: [0, 2].repeat(own_positions), targets, moves: to }
 }
 
 fn yards() {
@@ -245,10 +249,61 @@ fn readings() {
     println!();
 }
 
+/// Judging our own table, which goes over all of it.
+fn measure_judging(name: &str, yard: &Yard) {
+    let (sheet, (table, answer)) = (yard.sheet(), proved::make_of(yard, yard.owed_length()).unwrap());
+    assert_eq!(answer.losing, None);
+    // both find the same where a bit of a mask is turned over
+    for at in (table.len() - yard.pairs()..table.len()).step_by(yard.pairs() / 7 + 1) {
+        let mut other = table.clone();
+        other[at] ^= 1;
+        let by_hand = cabin::read(&other).and_then(|other| hand::Hand::new(&sheet).judge(&other));
+        assert_eq!(proved::judge(&sheet, &other).ok(), by_hand);
+    }
+    let judgings = if yard.pairs() < 1_000 { 200 } else { 1 };
+    let [by_proof, by_hand] = compare(
+        30,
+        [
+            &mut || {
+                for _ in 0..judgings {
+                    assert_eq!(proved::judge(black_box(&sheet), black_box(&table)), Ok(Judgement::Sound));
+                }
+            },
+            &mut || {
+                for _ in 0..judgings {
+                    let game = hand::Hand::new(black_box(&sheet));
+                    assert_eq!(game.judge(&cabin::read(black_box(&table)).unwrap()), Some(Judgement::Sound));
+                }
+            },
+        ],
+    );
+    println!(
+        "| {name} | {} | {:.2} µs | {:.2} µs | {:.2} |",
+        yard.pairs(),
+        nanoseconds(by_proof, judgings) / 1e3,
+        nanoseconds(by_hand, judgings) / 1e3,
+        ratio(by_proof, by_hand),
+    );
+}
+
+/// Nothing is unsafe in the large yards and every command permitted, so that every pair of the right side allows all of them.
+fn judgings() {
+    println!("| judging our table | pairs | proved | by hand | proved / by hand |");
+    println!("|---|---|---|---|---|");
+    measure_judging("dense, 32 positions, lag 6, 16 moves each", &around(16, 8, 16, 6));
+    measure_judging("dense, 256 positions, lag 4, 32 moves each", &dense());
+    measure_judging("dense, 256 positions, lag 5, 32 moves each", &dense().at(5));
+    measure_judging("the largest table, lag 4, one move each", &round_about());
+    measure_judging("the longer hall, lag 4", &sheets::long_hall().at(4));
+    measure_judging("the sorting hall, lag 2", &sheets::hall().at(2));
+    measure_judging("the loop, lag 6", &sheets::looped().at(6));
+    println!();
+}
+
 /// Turns a second over a table: each turn hears the report that is needed and gives the command.
 fn measure_cabin(name: &str, yard: &Yard) {
     let n = yard.pairs();
-    let (sheet, answer) = proved::make(&yard.sheet(), &mut vec![0; n], &mut vec![0; n], 50_000).unwrap();
+    let (sheet, answer) = proved::make_of(yard, 50_000).unwrap();
     assert_eq!(answer.losing, None);
     let delay = yard.delay as usize;
     let turns = 1_000;
@@ -309,5 +364,6 @@ fn main() {
     yards();
     worst_yards();
     readings();
+    judgings();
     cabins();
 }

@@ -1,6 +1,7 @@
 //! The cabin from document 01's words: a winning sheet read anew, and a state that remembers every command and every report.
 //! Nothing here is shared with the Rattle code.
 use crate::naive;
+use crate::sheets::house;
 use std::collections::BTreeMap;
 
 /// A winning sheet, decoded.
@@ -55,28 +56,34 @@ impl Table {
         self.delay as usize / 2
     }
 
-    /// The least flagged word's command of turn i.
-    fn first_command(&self, i: usize) -> u8 {
+    /// The bytes that read as this table.
+    pub fn sheet(&self) -> Vec<u8> {
+        let header = [self.start, self.actions, self.delay, self.highest];
+        house(&[(b'S', &header), (b'W', &self.words), (b'T', &self.masks)])
+    }
+
+    /// A first word's command of turn i.
+    pub fn first_command(&self, word: usize, i: usize) -> u8 {
         let length = (self.delay as usize + 1) / 2;
-        let word = self.words.iter().position(|&flag| flag == 1).unwrap();
         (word / (self.actions as usize).pow((length - 1 - i) as u32) % self.actions as usize) as u8
     }
 
-    /// The lowest command in the mask of a position with the last commands given, oldest first.
-    fn lowest(&self, position: u8, last: &[u8]) -> Option<u8> {
+    /// The mask of a position with the last of the commands given.
+    pub fn mask(&self, position: u8, given: &[u8]) -> u8 {
         let a = self.actions as usize;
+        let last = &given[given.len() - self.half()..];
         let word = last.iter().fold(0, |w, &c| w * a + c as usize);
-        let mask = self.masks[position as usize * a.pow(self.half() as u32) + word];
-        (0..8).find(|c| mask >> c & 1 == 1)
+        self.masks[position as usize * a.pow(self.half() as u32) + word]
     }
 
     /// The command of turn i: document 01's one rule, over positions by index and all commands given.
     pub fn command(&self, i: usize, position: impl Fn(usize) -> Option<u8>, given: &[u8]) -> Result<u8, u8> {
         if 2 * i < self.delay as usize {
-            return Ok(self.first_command(i));
+            let least = self.words.iter().position(|&flag| flag == 1).unwrap();
+            return Ok(self.first_command(least, i));
         }
-        let p = position(2 * i - self.delay as usize).ok_or(13)?;
-        self.lowest(p, &given[given.len() - self.half()..]).ok_or(14)
+        let mask = self.mask(position(2 * i - self.delay as usize).ok_or(13)?, given);
+        (0..8).find(|c| mask >> c & 1 == 1).ok_or(14)
     }
 }
 

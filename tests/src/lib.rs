@@ -1,8 +1,11 @@
-//! What the tests share: the proved library as Rust functions, yard sheets to feed it, and a naive solver to compare it with.
+//! What the tests share: the proved library as Rust functions, yard sheets to feed it, and a naive solver, cabin and judge to
+//! compare it with.
 pub mod cabin;
 pub mod counts;
+pub mod judge;
 pub mod naive;
 pub mod proved;
 pub mod random;
 pub mod sheets;
+pub mod working;
 pub mod worst;

@@ -86,8 +86,8 @@ pub fn read(sheet: &[u8]) -> Result<Read, u8> {
     Ok(Read { start, actions, delay, places, reached: reached(start, &steps).len() })
 }
 
-type Word = Vec<u8>;
-type Pair = (u8, Word);
+pub type Word = Vec<u8>;
+pub type Pair = (u8, Word);
 
 /// The yard of an accepted sheet.
 pub struct Game {
@@ -123,7 +123,7 @@ pub enum Verdict {
 }
 
 /// Every word of so many commands, in base-A order with the oldest command leading.
-fn words(actions: u8, length: usize) -> Vec<Word> {
+pub fn words(actions: u8, length: usize) -> Vec<Word> {
     let mut all = vec![Vec::new()];
     for _ in 0..length {
         all = all
@@ -170,13 +170,34 @@ impl Game {
         self.moves.get(&p).map_or(&[], |to| to)
     }
 
+    /// Every pair, by its number.
+    pub fn pairs(&self, delay: u8) -> Vec<Pair> {
+        let pending = words(self.actions, delay as usize / 2);
+        let positions = 0..self.positions() as u16;
+        positions.flat_map(|p| pending.iter().map(move |w| (p as u8, w.clone()))).collect()
+    }
+
+    /// Is the pair's position of the side that moves next?
+    pub fn right(&self, delay: u8, pair: &Pair) -> bool {
+        self.own(pair.0) == (delay % 2 == 0)
+    }
+
+    /// Is a first word good, when these pairs are kept?
+    pub fn good(&self, delay: u8, word: &[u8], kept: impl Fn(&Pair) -> bool) -> bool {
+        if delay % 2 == 0 {
+            return kept(&(self.start, word.to_vec()));
+        }
+        let target = self.target(self.start, word[0]);
+        self.safe(self.start) && target.is_some_and(|q| kept(&(q, word[1..].to_vec())))
+    }
+
     /// Is choosing c at the pair spoilt, when these pairs have fallen?
-    fn spoilt(&self, delay: u8, pair: &Pair, c: u8, fallen: &HashMap<Pair, u16>, rule: Rule) -> bool {
+    pub fn spoilt(&self, delay: u8, pair: &Pair, c: u8, fallen: impl Fn(&Pair) -> bool, rule: Rule) -> bool {
         let (p, word) = pair;
         let mut joined = word.clone();
         joined.push(c);
         let h = if rule == Rule::FreshestAction { joined.pop().unwrap() } else { joined.remove(0) };
-        let lost = |q: u8| fallen.contains_key(&(q, joined.clone()));
+        let lost = |q: u8| fallen(&(q, joined.clone()));
         let unsafe_passed = |q: u8| rule != Rule::PassUnsafe && !self.safe(q);
         if delay % 2 == 0 {
             match self.target(*p, h) {
@@ -192,11 +213,8 @@ impl Game {
     }
 
     pub fn level(&self, delay: u8, rule: Rule) -> Level {
-        let pending = words(self.actions, delay as usize / 2);
-        let positions = 0..self.positions() as u16;
-        let pairs: Vec<Pair> =
-            positions.flat_map(|p| pending.iter().map(move |w| (p as u8, w.clone()))).collect();
-        let right = |pair: &Pair| self.own(pair.0) == (delay % 2 == 0);
+        let pairs = self.pairs(delay);
+        let right = |pair: &Pair| self.right(delay, pair);
         let mut fallen: HashMap<Pair, u16> =
             pairs.iter().filter(|x| right(x) && !self.safe(x.0)).map(|x| (x.clone(), 1)).collect();
         let mut round = 1;
@@ -205,7 +223,7 @@ impl Game {
             let now: Vec<Pair> = pairs
                 .iter()
                 .filter(|x| right(x) && !fallen.contains_key(x))
-                .filter(|x| (0..self.actions).all(|c| self.spoilt(delay, x, c, &fallen, rule)))
+                .filter(|x| (0..self.actions).all(|c| self.spoilt(delay, x, c, |y| fallen.contains_key(y), rule)))
                 .cloned()
                 .collect();
             if now.is_empty() {
@@ -217,21 +235,11 @@ impl Game {
             }
         }
         let kept = |x: &Pair| right(x) && !fallen.contains_key(x);
-        let mask = |x: &Pair| {
-            (0..self.actions).filter(|&c| !self.spoilt(delay, x, c, &fallen, rule)).map(|c| 1u8 << c).sum()
-        };
-        let good = words(self.actions, (delay as usize + 1) / 2)
-            .into_iter()
-            .map(|word| {
-                if delay % 2 == 0 {
-                    return kept(&(self.start, word));
-                }
-                let target = self.target(self.start, word[0]);
-                self.safe(self.start) && target.is_some_and(|q| kept(&(q, word[1..].to_vec())))
-            })
-            .collect();
+        let allowed = |x: &Pair, c: u8| !self.spoilt(delay, x, c, |y| fallen.contains_key(y), rule);
+        let mask = |x: &Pair| (0..self.actions).filter(|&c| allowed(x, c)).map(|c| 1u8 << c).sum();
+        let first_words = words(self.actions, (delay as usize + 1) / 2);
         Level {
-            good,
+            good: first_words.iter().map(|word| self.good(delay, word, kept)).collect(),
             masks: pairs.iter().map(|x| if kept(x) { mask(x) } else { 0 }).collect(),
             ranks: pairs.iter().map(|x| fallen.get(x).copied().unwrap_or(0)).collect(),
         }

@@ -1,5 +1,7 @@
 //! The proved operations, through the C interface of `include/loquatquoits.h`.
+use crate::judge::Judgement;
 use crate::naive::Read;
+use crate::sheets::Yard;
 
 extern "C" {
     fn lq_read(sheet: *const u8, sheet_len: usize, header: *mut u8, places: *mut usize, reached: *mut usize) -> u8;
@@ -30,6 +32,14 @@ extern "C" {
     fn lq_open(sheet: *const u8, sheet_len: usize, state: *mut u8) -> u8;
     fn lq_observe(sheet: *const u8, sheet_len: usize, state: *mut u8, index: usize, position: u8) -> u8;
     fn lq_act(sheet: *const u8, sheet_len: usize, state: *mut u8, action: *mut u8) -> u8;
+    fn lq_judge(
+        sheet: *const u8,
+        sheet_len: usize,
+        table: *const u8,
+        table_len: usize,
+        verdict: *mut u8,
+        place: *mut usize,
+    ) -> u8;
 }
 
 /// What `lq_solve` leaves in `losing` where the asked lag wins.
@@ -124,6 +134,12 @@ pub fn make(sheet: &[u8], masks: &mut [u8], ranks: &mut [u16], room: usize) -> R
     Ok((out, Answer::new(losing, reached)))
 }
 
+/// The sheet of a yard, made with buffers that are as long as they must be.
+pub fn make_of(yard: &Yard, room: usize) -> Result<(Vec<u8>, Answer), u8> {
+    let n = yard.pairs();
+    make(&yard.sheet(), &mut vec![0; n], &mut vec![0; n], room)
+}
+
 /// Offset and length of the T body of a winning sheet.
 pub fn table_place(sheet: &[u8]) -> Result<(usize, usize), u8> {
     let mut place = [0x5a5a; 2];
@@ -163,4 +179,21 @@ pub fn act(sheet: &[u8], state: &mut [u8; 21]) -> Result<u8, u8> {
             Err(number)
         }
     }
+}
+
+/// What is said of a table made elsewhere, or the refusal's number; a refusal must leave what was lent.
+pub fn judge(sheet: &[u8], table: &[u8]) -> Result<Judgement, u8> {
+    let (mut verdict, mut place) = (0x5a, 0x5a5a);
+    let number =
+        unsafe { lq_judge(sheet.as_ptr(), sheet.len(), table.as_ptr(), table.len(), &mut verdict, &mut place) };
+    if number != 0 {
+        assert_eq!((verdict, place), (0x5a, 0x5a5a), "a refused judging altered what was lent");
+        return Err(number);
+    }
+    Ok(match (verdict, place) {
+        (0, 0) => Judgement::Sound,
+        (1, word) => Judgement::Word(word),
+        (2, pair) => Judgement::Pair(pair),
+        other => panic!("no judgement: {other:?}"),
+    })
 }

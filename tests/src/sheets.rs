@@ -130,6 +130,20 @@ pub struct Shape {
     pub unsafe_positions: usize,
 }
 
+impl Shape {
+    /// A shape of which every lag has few pairs, and many win.
+    pub fn small(random: &mut Random) -> Shape {
+        Shape {
+            own: 1 + random.below(5),
+            environment: 1 + random.below(5),
+            actions: 1 + random.below(3) as u8,
+            permitted: *random.pick(&[60, 90, 100]),
+            moves: 3,
+            unsafe_positions: *random.pick(&[0, 0, 10]),
+        }
+    }
+}
+
 /// A yard of this shape, its sides in random order and its start own.
 pub fn random_yard(random: &mut Random, shape: &Shape) -> Yard {
     let n = shape.own + shape.environment;
@@ -159,4 +173,18 @@ pub fn random_yard(random: &mut Random, shape: &Shape) -> Yard {
         moves.extend(to.into_iter().map(|t| [p, t]));
     }
     Yard { start: *random.pick(&own), actions: shape.actions, delay: 0, kinds, targets, moves }
+}
+
+/// Damage of one kind to a sheet.
+pub fn damage(random: &mut Random, sheet: &mut Vec<u8>) {
+    let at = random.below(sheet.len());
+    let other = random.below(sheet.len());
+    match random.below(6) {
+        0 => sheet[at] = random.next() as u8,
+        1 => sheet[at] = sheet[at].wrapping_add(1),
+        2 => sheet.truncate(at),
+        3 => sheet.swap(at, other),
+        4 => sheet.push(random.next() as u8),
+        _ => sheet[at] = random.below(9) as u8,
+    }
 }

@@ -1,11 +1,12 @@
 //! Tables and the cabin against an independent model: made sheets byte by byte, damaged winning sheets, made-up states, and thousands
 //! of lists of calls with late, overtaking, repeated, lost and (outside the window) false reports.
-use loquatquoits_tests::cabin::{self, Bytes, Cabin, Table};
+use loquatquoits_tests::cabin::{self, Bytes};
 use loquatquoits_tests::counts::{count, report, Counts};
 use loquatquoits_tests::naive::{self, Game, Rule, Verdict};
 use loquatquoits_tests::proved::{self, Answer};
 use loquatquoits_tests::random::Random;
 use loquatquoits_tests::sheets::{self, house, random_yard, Shape, Yard};
+use loquatquoits_tests::working;
 
 /// The sheet that making must write, or nothing where the yard's sheet is refused: document 01, "Sheets".
 fn naive_sheet(sheet: &[u8]) -> Option<(Vec<u8>, Answer)> {
@@ -27,34 +28,18 @@ fn naive_sheet(sheet: &[u8]) -> Option<(Vec<u8>, Answer)> {
     })
 }
 
-fn make(yard: &Yard, room: usize) -> Result<(Vec<u8>, Answer), u8> {
-    let n = yard.pairs();
-    proved::make(&yard.sheet(), &mut vec![0; n], &mut vec![0; n], room)
-}
-
-fn small_shape(random: &mut Random) -> Shape {
-    Shape {
-        own: 1 + random.below(5),
-        environment: 1 + random.below(5),
-        actions: 1 + random.below(3) as u8,
-        permitted: *random.pick(&[60, 90, 100]),
-        moves: 3,
-        unsafe_positions: *random.pick(&[0, 0, 10]),
-    }
-}
-
 #[test]
 fn made_sheets() {
     let mut random = Random::new(19);
     let mut counts = Counts::new();
     for _ in 0..1500 {
-        let shape = small_shape(&mut random);
+        let shape = Shape::small(&mut random);
         let yard = random_yard(&mut random, &shape).at(random.below(7) as u8);
         let owed = yard.owed_length();
         let (expected, answer) = naive_sheet(&yard.sheet()).unwrap();
-        assert_eq!(make(&yard, owed + random.below(5)), Ok((expected, answer)));
+        assert_eq!(proved::make_of(&yard, owed + random.below(5)), Ok((expected, answer)));
         count(&mut counts, if answer.losing.is_none() { "winning sheet".into() } else { "losing sheet".into() });
-        assert_eq!(make(&yard, owed - 1), Err(9));
+        assert_eq!(proved::make_of(&yard, owed - 1), Err(9));
         count(&mut counts, "refused 9".into());
     }
     report("made sheets", &counts, &["winning sheet", "losing sheet"].map(String::from));
@@ -65,7 +50,7 @@ fn damaged_tables() {
     let mut random = Random::new(11);
     let mut counts = Counts::new();
     for _ in 0..20000 {
-        let shape = small_shape(&mut random);
+        let shape = Shape::small(&mut random);
         let yard = random_yard(&mut random, &shape).at(random.below(4) as u8);
         let mut sheet = naive_sheet(&yard.sheet()).unwrap().0;
         for _ in 0..random.below(3) {
@@ -95,7 +80,7 @@ fn damaged_tables() {
 /// A winning sheet of a random yard that wins, with its yard.
 fn winning(random: &mut Random) -> (Yard, Vec<u8>) {
     loop {
-        let shape = small_shape(random);
+        let shape = Shape::small(random);
         let yard = random_yard(random, &shape).at(random.below(7) as u8);
         let (sheet, answer) = naive_sheet(&yard.sheet()).unwrap();
         if answer.losing.is_none() {
@@ -171,70 +156,15 @@ fn made_up_states() {
     report("made-up states", &counts, &[&hearing[..], &giving[..]].concat());
 }
 
-/// A rule of the yard that depends on the whole play.
-fn rule(seed: u64, play: &[u8], moves: &[u8]) -> u8 {
-    let hash = play.iter().fold(seed, |h, &p| (h ^ p as u64).wrapping_mul(0x0100_0000_01b3).rotate_left(7));
-    moves[(hash >> 20) as usize % moves.len()]
-}
-
-/// The exact play by the sheet and the rule alone: the positions up to index 2n and the commands of its first n turns.
-fn exact_play(game: &Game, table: &Table, seed: u64, turns: usize) -> (Vec<u8>, Vec<u8>) {
-    let (mut play, mut given) = (vec![table.start], Vec::new());
-    for i in 0..turns {
-        let command = table.command(i, |index| play.get(index).copied(), &given).unwrap();
-        let target = game.target(play[2 * i], command).expect("the exact play ended");
-        play.push(target);
-        play.push(rule(seed, &play, game.moves(target)));
-        given.push(command);
-    }
-    assert!(play.iter().all(|&p| game.safe(p)), "the exact play met an unsafe position");
-    (play, given)
-}
-
 #[test]
 fn lists_of_calls() {
     let mut random = Random::new(3);
     let mut counts = Counts::new();
     for _ in 0..3000 {
         let (yard, sheet) = winning(&mut random);
-        let game = Game::of(&yard.sheet(), &naive::read(&yard.sheet()).unwrap());
-        let table = cabin::read(&sheet).unwrap();
-        let seed = random.next();
-        let (exact, commands) = exact_play(&game, &table, seed, 60);
-        let mut state = proved::open(&sheet).unwrap();
-        let mut model = Cabin::default();
-        let mut worked = vec![table.start];
-        while model.given.len() < 60 && random.below(1000) > 0 {
-            let i = model.given.len();
-            if random.percent(60) {
-                // a true report of an index in the window or near it, in any order, or anything outside
-                let index = (2 * i + 2).saturating_sub(random.below(table.delay as usize + 5));
-                let outside = index > 2 * i || index + (table.delay as usize) < 2 * i;
-                let position = match worked.get(index) {
-                    Some(&p) if !outside => p,
-                    _ => random.below(table.highest as usize + 3) as u8,
-                };
-                let expected = model.hear(&table, index, position);
-                assert_eq!(proved::observe(&sheet, &mut state, index, position), expected);
-                count(&mut counts, format!("hearing {}", expected.map_or_else(|n| n.to_string(), |_| "accepted".into())));
-            } else {
-                let expected = model.give(&table);
-                let answer = proved::act(&sheet, &mut state);
-                assert_eq!(answer, expected);
-                if let Ok(command) = answer {
-                    assert_eq!(command, commands[i], "not the exact play's command");
-                    let target = game.target(worked[2 * i], command).expect("the worked play ended");
-                    worked.push(target);
-                    worked.push(rule(seed, &worked, game.moves(target)));
-                }
-                count(&mut counts, format!("giving {}", answer.map_or_else(|n| n.to_string(), |c| format!("command {c}"))));
-            }
-            assert_eq!(Bytes(&state).turn() as usize, model.given.len());
-        }
-        assert_eq!(worked[..], exact[..worked.len()], "the worked play is not the exact play");
+        working::work(&mut random, &yard, &sheet, &mut counts);
     }
-    let wanted = ["hearing 16", "hearing 17", "hearing 18", "hearing accepted", "giving 13", "giving command 0", "giving command 1", "giving command 2"];
-    report("lists of calls", &counts, &wanted.map(String::from));
+    report("lists of calls", &counts, &working::WANTED.map(String::from));
 }
 
 /// The last turns: 999,999 is given, 1,000,000 is not.
@@ -258,7 +188,7 @@ fn last_turn() {
 /// Document 01's cabin cases in the sorting hall at lag 2.
 #[test]
 fn hall_cases() {
-    let (sheet, answer) = make(&sheets::hall().at(2), 1000).unwrap();
+    let (sheet, answer) = proved::make_of(&sheets::hall().at(2), 1000).unwrap();
     assert_eq!(answer, Answer { losing: None, reached: 7 });
     let mut state = proved::open(&sheet).unwrap();
     assert_eq!(proved::act(&sheet, &mut state), Ok(0));

@@ -4,7 +4,7 @@ use loquatquoits_tests::counts::{count, report, Counts};
 use loquatquoits_tests::naive::{self, Game, Rule, Verdict};
 use loquatquoits_tests::proved::{self, Answer};
 use loquatquoits_tests::random::Random;
-use loquatquoits_tests::sheets::{self, random_yard, Shape, Yard};
+use loquatquoits_tests::sheets::{self, damage, random_yard, Shape, Yard};
 use loquatquoits_tests::worst::{fan, standing, worst, Worst};
 
 fn rule() -> Rule {
@@ -250,20 +250,6 @@ fn large_yards() {
         }
     }
     report("large yards", &counts, &[]);
-}
-
-/// Damage of one kind to a sheet.
-fn damage(random: &mut Random, sheet: &mut Vec<u8>) {
-    let at = random.below(sheet.len());
-    let other = random.below(sheet.len());
-    match random.below(6) {
-        0 => sheet[at] = random.next() as u8,
-        1 => sheet[at] = sheet[at].wrapping_add(1),
-        2 => sheet.truncate(at),
-        3 => sheet.swap(at, other),
-        4 => sheet.push(random.next() as u8),
-        _ => sheet[at] = random.below(9) as u8,
-    }
 }
 
 #[test]

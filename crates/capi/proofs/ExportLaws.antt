@@ -1,9 +1,10 @@
--- What a C caller gets, by the cases of the code's enums: one argument for reading, solving, making and table sheets. Assumes nothing.
+-- What a C caller gets, by the cases of the code's enums: one argument for reading, solving, making, table sheets and judging. Assumes nothing.
 use Prim.Native.Nat.{ℕ}
 use mathlib.Core.Path.{_≡_, sym, ap, _∙_}
 use mathlib.Core.List.{List, [], _∷_}
 use borrow.Author.Needs.{needs}
 use Rattle.theory.specs.Answer.{Answer, refused, accepted}
+use Rattle.theory.specs.Judging.{Ruling}
 use Rattle.sheet.specs.Limits.{width}
 use Rattle.sheet.specs.Form.{placedAt, partAt, bodyOf}
 use Rattle.sheet.specs.Refusals.{numberOf}
@@ -19,6 +20,8 @@ use Rattle.maker.specs.Making.{Measured, makingMeans}
 use Rattle.maker.specs.declared.making.Making.{Making}
 use Rattle.table.specs.TableSheet.{TableSheet, tableAnswer, tableReadingMeans, masksIn, masksOf}
 use Rattle.table.specs.declared.reading.TableReading.{TableReading}
+use Rattle.judge.specs.Judging.{judgementMeans}
+use Rattle.judge.specs.declared.judging.Judgement.{Judgement}
 use Rattle.capi.specs.Exported.{byAnswer}
 
 -- what an answer gives, by its two cases
@@ -56,6 +59,10 @@ module _ {B : Type 0} (v : B) (g : ℕ → B) where
       → v ≡ byAnswer g f (tableReadingMeans s w) → v ≡ byAnswer g f a
   by-table f a s = by-meaning v g f (tableReadingMeans s) a
 
+  pub by-judgement : (f : Ruling → B) (a : Answer Ruling) (r w : Judgement) → judgementMeans r ≡ a → r ≡ w → v ≡ byAnswer g f (judgementMeans w)
+      → v ≡ byAnswer g f a
+  by-judgement f = by-meaning v g f judgementMeans
+
 pub reading-number : (r : Reading) (why : Refusal) (n : ℕ) → n ≡ refusalNumber r → r ≡ Refused why → n ≡ numberOf why
 reading-number r why n q e = q ∙ ap refusalNumber e
 
@@ -70,6 +77,8 @@ pub ruleset solves = (needs, by-refused, by-accepted, by-solution)
 pub ruleset makes = (needs, by-refused, by-accepted, by-making)
 
 pub ruleset reads-tables = (needs, by-refused, by-accepted, by-table, placed-is)
+
+pub ruleset judges = (needs, by-refused, by-accepted, by-judgement)
 
 -- the place that is left where the sheet is read is that of the masks
 pub masks-placed : (s : List ℕ) (x : TableSheet) → tableAnswer s ≡ accepted x → partAt s (placedAt width s 2) ≡ masksOf s

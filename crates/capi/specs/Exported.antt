@@ -4,11 +4,13 @@ use Prim.Native.Nat.{ℕ}
 use mathlib.Core.List.{List, [], _∷_}
 use Rattle.theory.specs.Answer.{Answer, refused, accepted}
 use Rattle.theory.specs.Delay.{Verdict, wins, losing}
+use Rattle.theory.specs.Judging.{Ruling, sound, badWord, badNode}
 use Rattle.sheet.specs.Limits.{width}
 use Rattle.sheet.specs.Form.{placedAt}
 use Rattle.sheet.specs.Reading.{readAnswer}
 use Rattle.solver.specs.Solving.{solving}
 use Rattle.table.specs.TableSheet.{tableAnswer}
+use Rattle.judge.specs.Judging.{judgeAnswer}
 use Rattle.maker.specs.Making.{madeAnswer}
 
 -- by an answer: g of a refusal's number, f of an accepted value
@@ -65,3 +67,21 @@ madeReached s masks ranks out before = written (λ a. a .reached) (madeAnswer s 
 -- reading a table sheet: offset and length of the T body
 abbrev pub placeAfter : List ℕ → List ℕ → List ℕ
 placeAfter s place = written (λ x. placedAt width s 2 .at ∷ placedAt width s 2 .size ∷ []) (tableAnswer s) place
+
+-- judging: 0, LQ_SOUND, for a yes; 1, LQ_BAD_WORD, and 2, LQ_BAD_PAIR, for a no
+abbrev pub verdictNumber : Ruling → ℕ
+verdictNumber sound = 0
+verdictNumber (badWord v) = 1
+verdictNumber (badNode k) = 2
+
+-- and the number of what offends first, 0 where nothing does
+abbrev pub offender : Ruling → ℕ
+offender sound = 0
+offender (badWord v) = v
+offender (badNode k) = k
+
+abbrev pub verdictAfter : List ℕ → List ℕ → ℕ → ℕ
+verdictAfter s t before = written verdictNumber (judgeAnswer s t) before
+
+abbrev pub offenderAfter : List ℕ → List ℕ → ℕ → ℕ
+offenderAfter s t before = written offender (judgeAnswer s t) before

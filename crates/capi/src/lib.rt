@@ -1,5 +1,5 @@
 // Reading and solving for C and Rust callers (include/loquatquoits.h). Every function takes any bytes and any lengths.
-pub mod tables; // making sheets, and the masks of a table sheet
+pub mod tables; // making sheets, the masks of a table sheet, and judging one
 pub mod control; // opening, observing and acting
 
 use sheet::reading::Reading;

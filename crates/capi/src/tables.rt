@@ -1,5 +1,7 @@
-// Making sheets and reading a table sheet for C and Rust callers. Every function takes any bytes and any lengths.
+// Making sheets, reading a table sheet and judging one for C and Rust callers. Every function takes any bytes and any lengths.
 use crate::WINS;
+use judge::judging::Judgement;
+use judge::judging::judge;
 use maker::making::Making;
 use maker::making::make;
 use sheet::form::placed;
@@ -8,7 +10,15 @@ use table::reading::read;
 ghost use mathlib.Core.Path.{_≡_};
 ghost use Rattle.maker.specs.Making.{madeAnswer, masksMade, ranksMade, outputMade};
 ghost use Rattle.table.specs.TableSheet.{tableAnswer};
-ghost use Rattle.capi.specs.Exported.{numberFor, madeSize, madeLosing, madeReached, placeAfter};
+ghost use Rattle.judge.specs.Judging.{judgeAnswer};
+ghost use Rattle.capi.specs.Exported.{numberFor, madeSize, madeLosing, madeReached, placeAfter, verdictAfter, offenderAfter};
+
+// What stands for each verdict of judging (LQ_SOUND, LQ_BAD_WORD, LQ_BAD_PAIR).
+const SOUND: u8 = 0;
+
+const BAD_WORD: u8 = 1;
+
+const BAD_PAIR: u8 = 2;
 
 #[no_mangle]
 pub extern "C" fn lq_make(
@@ -72,4 +82,31 @@ pub extern "C" fn lq_masks(sheet: &[u8], place: &mut [usize; 2]) -> u8
     let masks = placed(sheet, 2);
     *place = [masks.at, masks.size];
     0
+}
+
+#[no_mangle]
+pub extern "C" fn lq_judge(sheet: &[u8], table: &[u8], verdict: &mut u8, place: &mut usize) -> u8
+    ensures number { λ r. ⌜ r ≡ numberFor (judgeAnswer (now (sheet .entry)) (now (table .entry))) ⌝ }
+    ensures verdict { λ r. ⌜ now (verdict .exit) ≡ verdictAfter (now (sheet .entry)) (now (table .entry)) (now (verdict .entry)) ⌝ }
+    ensures place { λ r. ⌜ now (place .exit) ≡ offenderAfter (now (sheet .entry)) (now (table .entry)) (now (place .entry)) ⌝ }
+{
+    let judgement = judge(sheet, table);
+    match judgement {
+        Judgement::Refused(number) => number,
+        Judgement::Sound => {
+            *verdict = SOUND;
+            *place = 0;
+            0
+        }
+        Judgement::BadWord(v) => {
+            *verdict = BAD_WORD;
+            *place = v;
+            0
+        }
+        Judgement::BadNode(k) => {
+            *verdict = BAD_PAIR;
+            *place = k;
+            0
+        }
+    }
 }

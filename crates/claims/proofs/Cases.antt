@@ -17,7 +17,7 @@ use Rattle.sheet.specs.SheetGame.{gameOf}
 use Rattle.maker.proofs.Made.{making-won}
 use Rattle.maker.specs.Making.{won, makeAnswer}
 use Rattle.controller.specs.Accuracy.{begun, Truthful, Accurate}
-use Rattle.claims.proofs.Accuracy.{accuracy}
+use Rattle.claims.proofs.Accuracy.{made-accuracy}
 use Rattle.theory.specs.cases.Games.{resultBy}
 use Rattle.claims.specs.cases.Starred.{lastMove, positionsOf, repliesTo, answersBy, playsBy, computed, alternating, starred, controllerCases, cases, hallTable, hallCalls}
 use Rattle.claims.proofs.Computing.{claims-compute}
@@ -79,5 +79,5 @@ hall-true = (
 -- demand 3 holds of the hall with this rule and these calls, from the bytes alone
 pub hall-accurate : Accurate (gameOf (hall 2)) hallTable (lastMove (gameOf (hall 2))) hallCalls
 hall-accurate =
-    accuracy (hall 2) 14 14 49 hallTable hall-made (lastMove (gameOf (hall 2)))
+    made-accuracy (hall 2) 14 14 49 hallTable hall-made (lastMove (gameOf (hall 2)))
     (last-rule (gameOf (hall 2)) (making-won (hall 2) 14 14 49 hallTable hall-made .ranged .legal)) hallCalls hall-true

@@ -6,7 +6,7 @@ use Rattle.solver.specs.Solving.{solveAnswer}
 use Rattle.theory.specs.Table.{ours}
 use Rattle.writer.specs.SheetBytes.{headerOf, tableBytes, tableSheet, rankSheet}
 use Rattle.maker.specs.Making.{tableSheetOf, rankSheetOf, madeOf, outputSize, makeAnswer}
-use Rattle.table.specs.TableSheet.{tableLayout, decode, tableNodes, numbersOk, belowAt, bytesBelow, bodiesOk, shapeAnswer, someFlagged, tableAnswer}
+use Rattle.table.proofs.Computing.{table-computes}
 use Rattle.state.specs.State.{slotAt, agrees, heldAt, withinAt, heldOk, windowOk, stateOk, pushed, shiftedAt, shifted}
 use Rattle.controller.specs.Controller.{observeWith, wordOf, obey, nextAction, neededKnown, actWith, openAnswer, observeAnswer, actAnswer}
 
@@ -18,10 +18,6 @@ unfoldable pub making-computes : Bool
 unfolding ours headerOf tableBytes tableSheet rankSheet tableSheetOf rankSheetOf madeOf outputSize makeAnswer
 making-computes = true
 
-unfoldable pub table-sheets-compute : Bool
-unfolding tableLayout decode tableNodes numbersOk belowAt bytesBelow bodiesOk shapeAnswer someFlagged tableAnswer
-table-sheets-compute = true
-
 unfoldable pub states-compute : Bool
 unfolding slotAt agrees heldAt withinAt heldOk windowOk stateOk pushed shiftedAt shifted
 states-compute = true
@@ -31,5 +27,5 @@ unfolding observeWith wordOf obey nextAction neededKnown actWith openAnswer obse
 calls-compute = true
 
 unfoldable pub claims-compute : Bool
-unfolding sheet-computes solving-computes making-computes table-sheets-compute states-compute calls-compute callStep Truthful
+unfolding sheet-computes solving-computes making-computes table-computes states-compute calls-compute callStep Truthful
 claims-compute = true

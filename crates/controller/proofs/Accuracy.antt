@@ -19,7 +19,7 @@ use Rattle.controller.specs.Sound.{Sound}
 use Rattle.controller.proofs.Progress.{goes, Follows, begins, Right, observe-right, act-right}
 
 -- a readable sheet has a flagged word
-some-word : (t : List ℕ) (x : TableSheet) → tableAnswer t ≡ accepted x → (v : ℕ) × (flagged (x .table) v ≡ true)
+pub some-word : (t : List ℕ) (x : TableSheet) → tableAnswer t ≡ accepted x → (v : ℕ) × (flagged (x .table) v ≡ true)
 unfolding tableAnswer someFlagged
 some-word t x e =
     let a = accepted-on (shapeAnswer t) _ e in

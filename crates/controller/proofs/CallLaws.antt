@@ -1,34 +1,32 @@
 -- Opening, observing and acting, as the code of src/calls.rt finds them: the checks before have passed, and one fails.
 -- Assumes nothing.
 use Prim.Native.Nat.{ℕ, _+_, _-_, _*_, _/_, _^_, _≤_, _<_}
-use mathlib.Core.Path.{_≡_, refl, sym, _∙_, ap, ap₂, subst}
+use mathlib.Core.Path.{_≡_, refl, sym, _∙_, ap, ap₂}
 use mathlib.Core.Bool.{Bool, true, false, not}
-use mathlib.Core.Logic.{⊎-elim}
 use mathlib.Core.List.{List, []}
 use native.Mathlib.Omega.{arith}
 use native.Mathlib.Numerals.{add-one}
 use lib.Count.{trailingZeros}
-use lib.ListN.{length, getD, set, take, List·getD-eq-default}
-use lib.Pow.{pow-pos}
+use lib.ListN.{getD, set, take}
 use mir.Syntax.{w64}
 use mir.Val.{Fits}
 use borrow.Author.Needs.{needs}
-use borrow.Author.Tests.{leb-true, ltb-true, lt-ltb, le-ltb, not-true, not-false}
-use Rattle.theory.specs.Fold.{either, allBelow}
+use borrow.Author.Tests.{leb-true, lt-ltb, le-ltb, not-true, not-false}
+use Rattle.theory.specs.Fold.{either}
 use Rattle.theory.specs.Answer.{refused, accepted, onAccepted}
 use Rattle.theory.specs.Words.{digit}
 use Rattle.theory.specs.Strategy.{initialLength}
 use Rattle.theory.specs.Table.{flagged}
 use Rattle.theory.specs.Exact.{some, leastFlagged, lowestIn, actionAt}
-use Rattle.theory.proofs.Fold.{both-left, both-right, either-left, all-at, below?, failed, passed}
-use Rattle.theory.proofs.Answer.{accepted-same, check-accepted, accepted-on}
+use Rattle.theory.proofs.Fold.{both-left, either-left, failed, passed}
 use Rattle.theory.proofs.Masks.{lowest-acts, lowest-missing, lowest-trailing}
-use Rattle.sheet.specs.Limits.{mostActions, mostDelay}
+use Rattle.sheet.specs.Limits.{mostDelay}
 use Rattle.sheet.specs.Form.{partAt}
 use Rattle.sheet.specs.Refusals.{numberOf}
 use Rattle.sheet.specs.declared.refusal.Refusal.{Refusal}
 use Rattle.sheet.specs.declared.refusal.Refusal.the-variants as refusal
-use Rattle.table.specs.TableSheet.{TableSheet, says, tableAt, decode, numbersOk, belowAt, bytesBelow, bodiesOk, shapeAnswer, tableAnswer, tableReadingMeans}
+use Rattle.table.specs.TableSheet.{TableSheet, says, tableAt, tableAnswer, tableReadingMeans}
+use Rattle.table.proofs.Accepted.{table-accepted}
 use Rattle.table.specs.declared.reading.TableLayout.{TableLayout}
 use Rattle.table.specs.declared.reading.TableReading.{TableReading}
 use Rattle.table.specs.declared.reading.TableReading.the-variants as table
@@ -240,32 +238,14 @@ pub ruleset act-laws = (needs, turn-fits, turn-left, needed-slot, acts-20, acts-
 
 -- what an accepted reading says of the numbers and the masks
 pub usable : (t : List ℕ) (x : TableSheet) → tableAnswer t ≡ accepted x → Usable x
-unfolding tableAnswer shapeAnswer numbersOk bodiesOk bytesBelow belowAt
 usable t x e =
-    let a = accepted-on (shapeAnswer t) _ e in
-    let z = check-accepted _ 12 _ (a .2) in
-    let c = check-accepted _ 10 _ (a .1) in
-    let n = check-accepted _ 11 _ (c .1) in
-    let m = check-accepted _ 11 _ (n .1) in
-    let y : x ≡ decode t = sym (accepted-same (z .1)) ∙ sym (accepted-same (m .1)) in
-    let p = both-right _ _ (n .0) in
-    let q = both-right _ _ p in
-    subst Usable (sym y)
-    (record {
-      some-action = leb-true 1 (decode t .actions) (both-left _ _ p);
-      few-actions = leb-true (decode t .actions) mostActions (both-left _ _ q);
-      short-delay = leb-true (decode t .delay) mostDelay (both-left _ _ (both-right _ _ q));
-      small-masks = small (both-right _ _ (both-right _ _ (both-right _ _ (m .0))));
-    })
-  where
-    small : allBelow (belowAt (2 ^ decode t .actions) (decode t .table .masks)) (length (decode t .table .masks)) ≡ true
-        → (k : ℕ) → getD (decode t .table .masks) k 0 < 2 ^ decode t .actions
-    small h k =
-        ⊎-elim
-        (λ (i : k < length (decode t .table .masks)). ltb-true _ _ (all-at _ _ h k i))
-        (λ (o : length (decode t .table .masks) ≤ k).
-        rw (List·getD-eq-default (decode t .table .masks) 0 o) (pow-pos (decode t .actions)))
-        (below? k (length (decode t .table .masks)))
+    let h = table-accepted t x e .1 in
+    record {
+      some-action = h .some-action;
+      few-actions = h .few-actions;
+      short-delay = h .short-delay;
+      small-masks = h .masks-small;
+    }
 
 observe-any : (l : TableLayout) (f m : List ℕ) (s : State) (k p : ℕ) → observeWith (says l [] []) s k p ≡ observeWith (says l f m) s k p
 unfolding observeWith stateOk heldOk windowOk

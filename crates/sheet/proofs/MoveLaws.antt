@@ -1,6 +1,6 @@
 -- The index of first lines (specs/code/Arrays.antt), as the code of src/moves.rt fills it. Assumes nothing.
-use Prim.Native.Nat.{ℕ, suc, _+_, _*_, _≤_, _<_}
-use mathlib.Core.Path.{_≡_, refl, sym, _∙_}
+use Prim.Native.Nat.{ℕ, _+_, _*_, _≤_, _<_}
+use mathlib.Core.Path.{_≡_, refl}
 use mathlib.Core.Bool.{true, false}
 use mathlib.Core.List.{List}
 use mathlib.Core.Logic.{⊎-elim}
@@ -8,8 +8,8 @@ use native.Mathlib.Omega.{arith}
 use lib.ListN.{length, getD}
 use borrow.Author.Needs.{needs}
 use borrow.Author.Tests.{ltb-true, lt-ltb, le-ltb}
-use Rattle.theory.specs.Fold.{allBelow, firstNot}
-use Rattle.theory.proofs.Fold.{bool, all-none, all-at, all-below, all-fails, all-again, first, first-suc, first-unique}
+use Rattle.theory.specs.Fold.{allBelow}
+use Rattle.theory.proofs.Fold.{bool, all-none, all-at, all-below, all-again, first, first-suc, first-stops, first-ends}
 use Rattle.theory.proofs.Filling.{filled, filled-none, filled-more, filled-done}
 use Rattle.sheet.specs.code.Arrays.{fromBelow, firstLine, firstsOf, lineCount, indexEntries}
 
@@ -20,25 +20,14 @@ module _ (u : List ℕ) (q : ℕ) where
   unfolding fromBelow
   skip-again i e d f h = all-again (fromBelow u q) i e refl (lt-ltb _ q (omega arith))
 
-  stopped : (i : ℕ) → i < lineCount u → allBelow (fromBelow u q) i ≡ true → fromBelow u q i ≡ false → i ≡ firstLine u q
-  unfolding firstLine
-  stopped i h e f =
-      first-unique (fromBelow u q) {n = suc (lineCount u)}
-      (record { below = omega arith; fails = f; before = all-at (fromBelow u q) i e })
-      (first (fromBelow u q) (suc (lineCount u)) (all-fails (fromBelow u q) i (suc (lineCount u)) (omega arith) f))
-
   pub skip-found : (i : ℕ) {n r b : ℕ} → n ≡ lineCount u → allBelow (fromBelow u q) i ≡ true → i < n → r ≡ b → b ≡ getD u (2 * i) 0 → q ≤ r
       → i ≡ firstLine u q
-  unfolding fromBelow
-  skip-found i s e h d f g = stopped i (omega arith) e (le-ltb _ q (omega arith))
+  unfolding firstLine fromBelow
+  skip-found i s e h d f g = first-stops (fromBelow u q) i (omega arith) e (le-ltb _ q (omega arith))
 
   pub skip-end : (i : ℕ) {n : ℕ} → n ≡ lineCount u → allBelow (fromBelow u q) i ≡ true → i ≤ lineCount u → n ≤ i → i ≡ firstLine u q
   unfolding firstLine
-  skip-end i s e h g =
-      let z : i ≡ lineCount u = omega arith in
-      let a : allBelow (fromBelow u q) (lineCount u) ≡ true = rw z at e in
-      let w : firstNot (fromBelow u q) (suc (lineCount u)) ≡ lineCount u = rw (first-suc (fromBelow u q) (lineCount u), a) in
-      z ∙ sym w
+  skip-end i s e h g = first-ends (fromBelow u q) h (omega arith) e
 
   pub record Skipped (i : ℕ) : Type 0 where
     pub inside : i ≤ lineCount u

@@ -1,9 +1,10 @@
--- Document 01's number for each refusal, under "What each operation says no to". Assumes nothing.
+-- The number of each refusal: document 01's, under "What each operation says no to", and from 21 on document 02's ("the new numbers
+-- here and below counting as document 01's"). Assumes nothing.
 use Prim.Native.Nat.{ℕ}
 use Rattle.sheet.specs.declared.refusal.Refusal.{Refusal}
 use Rattle.sheet.specs.declared.refusal.Refusal.the-variants.{Contents, Positions, Header, Targets, Moves, Stuck, Size, Buffers}
 use Rattle.sheet.specs.declared.refusal.Refusal.the-variants.{Output, TableContents, TableShape, NoInitialWord, Unobserved, NoAction}
-use Rattle.sheet.specs.declared.refusal.Refusal.the-variants.{LastTurn, UnknownPosition, TooOld, TooNew, Contradiction, State}
+use Rattle.sheet.specs.declared.refusal.Refusal.the-variants.{LastTurn, UnknownPosition, TooOld, TooNew, Contradiction, State, Mismatch}
 
 abbrev pub numberOf : Refusal → ℕ
 numberOf Contents = 1
@@ -26,3 +27,4 @@ numberOf TooOld = 17
 numberOf TooNew = 18
 numberOf Contradiction = 19
 numberOf State = 20
+numberOf Mismatch = 21

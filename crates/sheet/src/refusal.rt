@@ -1,4 +1,4 @@
-// Every reason for which an operation says no, and document 01's number for it.
+// Every reason for which an operation says no, and its number: document 01's to 20, document 02's above.
 ghost use mathlib.Core.Path.{_≡_};
 ghost use Rattle.sheet.specs.Refusals.{numberOf};
 
@@ -23,10 +23,11 @@ pub enum Refusal {
     TooNew,
     Contradiction,
     State,
+    Mismatch,
 }
 
 impl Refusal {
-    // Document 01's number of a refusal.
+    // The number of a refusal.
     pub fn number(self) -> u8
         ensures { λ n. ⌜ n ≡ numberOf self ⌝ }
     {
@@ -51,6 +52,7 @@ impl Refusal {
             Refusal::TooNew => 18,
             Refusal::Contradiction => 19,
             Refusal::State => 20,
+            Refusal::Mismatch => 21,
         }
     }
 }

@@ -14,6 +14,7 @@ use sheet::size::power;
 ghost use mathlib.Core.Path.{_≡_};
 ghost use mathlib.Core.List.{[]};
 ghost use Prim.Native.Nat.{_*_, _%_, _^_, _≤_};
+ghost use lib.ListN.{getD};
 ghost use Rattle.sheet.specs.Limits.{mostActions, mostDelay};
 ghost use Rattle.sheet.specs.code.Steps.{mostPower};
 ghost use Rattle.table.specs.TableSheet.{tableLayout, says, bytesBelow, shapeAnswer, someFlagged, tableAnswer};
@@ -184,4 +185,11 @@ pub fn masks(sheet: &[u8]) -> &[u8]
         return &sheet[..0];
     };
     body(sheet, 2)
+}
+
+// The mask of node k in a T body; 0 where there is no such node. Those who judge a table read its masks here alone.
+pub fn mask_of(masks: &[u8], k: usize) -> usize
+    ensures { λ r. ⌜ r ≡ getD (now (masks .entry)) k 0 ⌝ }
+{
+    wide(byte(masks, k))
 }

@@ -194,6 +194,50 @@ first-unique p {n} {m} {i} {j} a b =
     ⊎-elim (λ (l : j < i). absurd (not-both (a .before j l) (b .fails))) (λ (h : i ≤ j). omega arith) (below? j i))
     (below? i j)
 
+-- a search among the n indices that stops at the first that fails, and gives n where none does
+
+pub first-stops : (p : ℕ → Bool) (i : ℕ) {n : ℕ} → i < n → allBelow p i ≡ true → p i ≡ false → i ≡ firstNot p (suc n)
+first-stops p i {n} h e f =
+    first-unique p {n = suc n}
+    (record { below = omega arith; fails = f; before = all-at p i e })
+    (first p (suc n) (all-fails p i (suc n) (omega arith) f))
+
+pub first-ends : (p : ℕ → Bool) {i n : ℕ} → i ≤ n → n ≤ i → allBelow p i ≡ true → i ≡ firstNot p (suc n)
+first-ends p {i} {n} h g e =
+    let q : i ≡ n = omega arith in
+    let a : allBelow p n ≡ true = rw q at e in
+    let w : firstNot p (suc n) ≡ n = rw (first-suc p n, a) in
+    q ∙ sym w
+
+-- what its result says
+pub first-stopped : (p : ℕ → Bool) {i n : ℕ} → i ≡ firstNot p (suc n) → i < n → (allBelow p n ≡ false) × (i ≡ firstNot p n)
+first-stopped p {i} {n} e h =
+    ⊎-elim
+    (λ (t : allBelow p n ≡ true). let q : i ≡ n = e ∙ rw (first-suc p n, t) in absurd (omega arith))
+    (λ (f : allBelow p n ≡ false). (f, e ∙ rw (first-suc p n, f)))
+    (bool (allBelow p n))
+
+pub first-ended : (p : ℕ → Bool) {i n : ℕ} → i ≡ firstNot p (suc n) → n ≤ i → allBelow p n ≡ true
+first-ended p {i} {n} e h =
+    ⊎-elim
+    (λ (t : allBelow p n ≡ true). t)
+    (λ (f : allBelow p n ≡ false).
+    let q : i ≡ firstNot p n = e ∙ rw (first-suc p n, f) in
+    let b = first p n f .below in
+    absurd (omega arith))
+    (bool (allBelow p n))
+
+-- tests that agree below n find the same
+pub all-same : (p q : ℕ → Bool) (n : ℕ) → ((i : ℕ) → i < n → p i ≡ q i) → allBelow p n ≡ allBelow q n
+unfolding allBelow
+all-same p q zero f = refl
+all-same p q (suc n) f = rw (all-same p q n (λ i h. f i (omega arith)), f n (omega arith))
+
+pub first-same : (p q : ℕ → Bool) (n : ℕ) → ((i : ℕ) → i < n → p i ≡ q i) → firstNot p (suc n) ≡ firstNot q (suc n)
+first-same p q zero f = rw (first-suc p 0, first-suc q 0, all-none p, all-none q)
+first-same p q (suc n) f =
+    rw (first-suc p (suc n), first-suc q (suc n), all-same p q (suc n) f, first-same p q n (λ i h. f i (omega arith)))
+
 -- some index below n
 
 pub any-none : (p : ℕ → Bool) → anyBelow p 0 ≡ false

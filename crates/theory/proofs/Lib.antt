@@ -13,6 +13,7 @@ pub mod Pending
 pub mod Turns
 pub mod Correctness
 pub mod Tables
+pub mod Judging
 pub mod OurTable
 pub mod NodeStrategy
 pub mod Monotone

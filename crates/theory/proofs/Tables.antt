@@ -121,23 +121,36 @@ module _ (G : Game) (legal : Legal G) (d : ℕ) where
       let q : initialLength d ≡ d / 2 = omega arith in
       rw q at l
 
-  -- more kept nodes keep good words good
-  pub good-more : (keeps keeps′ : ℕ → Bool) (v : ℕ) → v < initialWords G d → ((k : ℕ) → k < arena G d .nodes → keeps k ≡ true → keeps′ k ≡ true)
+  -- a first word asks about nodes of the right side alone, and more kept ones among them keep it good
+  pub good-sided : (keeps keeps′ : ℕ → Bool) (v : ℕ) → v < initialWords G d
+      → ((k : ℕ) → k < arena G d .nodes → arena G d .right k ≡ true → keeps k ≡ true → keeps′ k ≡ true)
       → goodFrom G d keeps v ≡ true → goodFrom G d keeps′ v ≡ true
   unfolding goodFrom
-  good-more keeps keeps′ v l f e =
+  good-sided keeps keeps′ v l f e =
       starts-good G (words G d) keeps′ v (odd d) (more (odd d) refl (good-starts G (words G d) keeps v (odd d) e))
     where
       more : (b : Bool) → odd d ≡ b → Starts b G (words G d) (λ k. keeps k ≡ true) v → Starts b G (words G d) (λ k. keeps′ k ≡ true) v
-      more false e s = f _ (node-number (G .start) v (legal .start-position) (even-word v e l)) s
-      more true e s = (
-        s .0,
-        (
-          s .1 .0,
-          s .1 .1,
-          f _ (node-number (s .1 .0) (v % words G d) (legal .targets _ _ _ (s .1 .1) .position) (mod-lt v words-some)) (s .1 .2),
-        ),
-      )
+      more false e s =
+          let w = even-word v e l in
+          f _ (node-number (G .start) v (legal .start-position) w)
+          (node-controller (G .start) v w ∙ right-even G (odd d) (G .start) e ∙ legal .start-controller)
+          s
+      more true e s =
+          let t = legal .targets _ _ _ (s .1 .1) in
+          let w = mod-lt v words-some in (
+            s .0,
+            (
+              s .1 .0,
+              s .1 .1,
+              f _ (node-number (s .1 .0) (v % words G d) (t .position) w)
+                  (node-controller (s .1 .0) (v % words G d) w ∙ right-odd G (odd d) (s .1 .0) e ∙ ap not (t .environment))
+                  (s .1 .2),
+            ),
+          )
+
+  pub good-more : (keeps keeps′ : ℕ → Bool) (v : ℕ) → v < initialWords G d → ((k : ℕ) → k < arena G d .nodes → keeps k ≡ true → keeps′ k ≡ true)
+      → goodFrom G d keeps v ≡ true → goodFrom G d keeps′ v ≡ true
+  good-more keeps keeps′ v l f = good-sided keeps keeps′ v l (λ k h r. f k h)
 
 -- any choice out of a judged table wins
 

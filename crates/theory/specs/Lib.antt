@@ -11,6 +11,7 @@ pub mod Infinite
 pub mod Rounds
 pub mod Delay
 pub mod Table
+pub mod Judging
 pub mod Exact
 pub mod Reach
 pub mod cases

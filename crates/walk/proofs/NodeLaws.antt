@@ -79,7 +79,7 @@ module _ (positions : ℕ) (l : Level) where
 
     -- and conversely: at a node that exists, an answer is the walk's
 
-    node-tested : Sized positions l → k < l .nodes → isNode positions l k ≡ true
+    pub node-tested : Sized positions l → k < l .nodes → isNode positions l k ≡ true
     unfolding isNode
     node-tested s h = both-true _ _ (sized-tested s) (lt-ltb _ _ h)
 

@@ -66,7 +66,7 @@ pub fn is_sized(positions: usize, level: Level) -> bool
     level.nodes == positions * level.words
 }
 
-pub(crate) fn is_node(positions: usize, level: Level, k: usize) -> bool
+pub fn is_node(positions: usize, level: Level, k: usize) -> bool
     ensures { λ r. ⌜ r ≡ isNode positions level k ⌝ }
 {
     if !is_sized(positions, level) {

@@ -1,0 +1,449 @@
+//! Tables made elsewhere: the proved judge against the naive one over our tables and altered ones, every single bit, damaged sheets,
+//! several faults at once and the largest tables; and what a yes means, at work in the cabin and by any choice out of the table.
+use loquatquoits_tests::cabin::{self, Table};
+use loquatquoits_tests::counts::{count, report, Counts};
+use loquatquoits_tests::judge::{self, Judgement, Offences};
+use loquatquoits_tests::naive::{self, Game};
+use loquatquoits_tests::proved;
+use loquatquoits_tests::random::Random;
+use loquatquoits_tests::sheets::{self, damage, random_yard, Shape, Yard};
+use loquatquoits_tests::working::{self, safe_play};
+
+/// What offends, once both judges have said the same; neither sheet is altered.
+fn judged(sheet: &[u8], table: &[u8]) -> Result<Offences, u8> {
+    let (lent_sheet, lent_table) = (sheet.to_vec(), table.to_vec());
+    let answer = proved::judge(&lent_sheet, &lent_table);
+    assert_eq!((&lent_sheet[..], &lent_table[..]), (sheet, table), "judging altered a sheet");
+    let expected = judge::judge(sheet, table);
+    assert_eq!(answer, expected.as_ref().map(Offences::judgement).map_err(|&number| number), "{sheet:?} {table:?}");
+    expected
+}
+
+fn words_of(answer: &Result<Offences, u8>) -> String {
+    match answer.as_ref().map(Offences::judgement) {
+        Err(number) => format!("refused {number}"),
+        Ok(Judgement::Sound) => "yes".into(),
+        Ok(Judgement::Word(_)) => "bad word".into(),
+        Ok(Judgement::Pair(_)) => "bad pair".into(),
+    }
+}
+
+/// Our table, where the yard wins at its lag.
+fn ours(yard: &Yard) -> Option<Table> {
+    let (sheet, answer) = proved::make_of(yard, yard.owed_length()).unwrap();
+    answer.losing.is_none().then(|| cabin::read(&sheet).unwrap())
+}
+
+/// A small random yard that wins, and our table.
+fn winning(random: &mut Random) -> (Yard, Table) {
+    loop {
+        let shape = Shape::small(random);
+        let yard = random_yard(random, &shape).at(random.below(7) as u8);
+        if let Some(table) = ours(&yard) {
+            return (yard, table);
+        }
+    }
+}
+
+/// Some of the commands, each in so many of a hundred cases.
+fn commands(random: &mut Random, actions: u8, share: usize) -> u8 {
+    (0..actions).map(|c| u8::from(random.percent(share)) << c).sum()
+}
+
+/// Nothing of ours but its numbers and lengths: masks on the right side alone or anywhere, one flag or all.
+fn random_table(random: &mut Random, yard: &Yard) -> Table {
+    let (share, anywhere, all) = (*random.pick(&[30, 70, 100]), random.percent(30), random.percent(50));
+    let right = pairs_at(yard, if yard.delay % 2 == 0 { [0, 1] } else { [2, 3] });
+    let mut masks = vec![0; yard.pairs()];
+    for (k, mask) in masks.iter_mut().enumerate() {
+        if anywhere || right.contains(&k) {
+            *mask = commands(random, yard.actions, share);
+        }
+    }
+    let mut words = vec![u8::from(all); (yard.actions as usize).pow((yard.delay as u32 + 1) / 2)];
+    *pick(random, &mut words) = 1;
+    table_of(yard, words, masks)
+}
+
+fn table_of(yard: &Yard, words: Vec<u8>, masks: Vec<u8>) -> Table {
+    let highest = (yard.kinds.len() - 1) as u8;
+    let place = (19 + words.len(), masks.len());
+    Table { start: yard.start, actions: yard.actions, delay: yard.delay, highest, words, masks, place }
+}
+
+fn pick<'a>(random: &mut Random, bytes: &'a mut [u8]) -> &'a mut u8 {
+    let at = random.below(bytes.len());
+    &mut bytes[at]
+}
+
+/// Each mask keeps some of its commands, one at least, and so do the flags: what is kept stays so, and the table sound.
+fn thinned(random: &mut Random, table: &Table) -> Table {
+    let mut thin = table.clone();
+    for mask in thin.masks.iter_mut() {
+        let left = *mask & commands(random, table.actions, 50);
+        *mask = if left == 0 { *mask } else { left };
+    }
+    let words: Vec<u8> = table.words.iter().map(|flag| flag & u8::from(random.percent(50))).collect();
+    if words.contains(&1) {
+        thin.words = words;
+    }
+    thin
+}
+
+fn with_commands_taken(random: &mut Random, table: &Table) -> Table {
+    let share = *random.pick(&[50, 80, 97]);
+    let masks = table.masks.iter().map(|mask| mask & commands(random, table.actions, share)).collect();
+    Table { masks, ..table.clone() }
+}
+
+/// The pairs at positions of these kinds.
+fn pairs_at(yard: &Yard, kinds: [u8; 2]) -> Vec<usize> {
+    let power = yard.pairs() / yard.kinds.len();
+    (0..yard.pairs()).filter(|k| kinds.contains(&yard.kinds[k / power])).collect()
+}
+
+/// One to three commands more, at these pairs.
+fn with_commands_at(random: &mut Random, table: &Table, pairs: &[usize]) -> Table {
+    let mut more = table.clone();
+    for _ in 0..1 + random.below(3) {
+        more.masks[*random.pick(pairs)] |= 1 << random.below(table.actions as usize);
+    }
+    more
+}
+
+fn with_flag(random: &mut Random, table: &Table) -> Table {
+    let mut more = table.clone();
+    *pick(random, &mut more.words) = 1;
+    more
+}
+
+/// Our table and others that were made from it.
+fn altered(random: &mut Random, yard: &Yard, table: &Table) -> Vec<(&'static str, Table)> {
+    let (wrong, lost) = if yard.delay % 2 == 0 { ([2, 3], [1, 1]) } else { ([0, 1], [3, 3]) };
+    let all: Vec<usize> = (0..table.masks.len()).collect();
+    let mut tables = vec![
+        ("ours", table.clone()),
+        ("thinned", thinned(random, table)),
+        ("commands taken", with_commands_taken(random, table)),
+        ("flag added", with_flag(random, table)),
+    ];
+    for (name, pairs) in [
+        ("commands added", all),
+        ("commands on the wrong side", pairs_at(yard, wrong)),
+        ("commands at unsafe positions", pairs_at(yard, lost)),
+    ] {
+        if !pairs.is_empty() {
+            tables.push((name, with_commands_at(random, table, &pairs)));
+        }
+    }
+    tables
+}
+
+/// A yes: the yard wins, and ours flags and allows as much at least.
+fn assert_inside(table: &Table, ours: Option<&Table>) {
+    let ours = ours.expect("a yes where nothing wins");
+    let inside = |these: &[u8], those: &[u8]| these.iter().zip(those).all(|(these, those)| these & !those == 0);
+    assert!(inside(&table.words, &ours.words) && inside(&table.masks, &ours.masks), "{table:?} {ours:?}");
+}
+
+#[test]
+fn random_tables() {
+    let mut random = Random::new(202);
+    let mut counts = Counts::new();
+    for _ in 0..1000 {
+        let shape = Shape { unsafe_positions: *random.pick(&[0, 10, 20]), ..Shape::small(&mut random) };
+        let whole = random_yard(&mut random, &shape);
+        for yard in (0..7).map(|delay| whole.at(delay)) {
+            let ours = ours(&yard);
+            let mut tables = ours.as_ref().map_or(Vec::new(), |ours| altered(&mut random, &yard, ours));
+            tables.push(("wholly random", random_table(&mut random, &yard)));
+            for (name, table) in tables {
+                let answer = judged(&yard.sheet(), &table.sheet());
+                let words = words_of(&answer);
+                match answer.as_ref().map(Offences::judgement) {
+                    Ok(Judgement::Sound) => assert_inside(&table, ours.as_ref()),
+                    _ => assert!(!["ours", "thinned"].contains(&name), "{words}: {yard:?} {table:?}"),
+                }
+                if let Ok(Judgement::Pair(k)) = answer.as_ref().map(Offences::judgement) {
+                    count(&mut counts, format!("bad pair by {:?}", answer.unwrap().pairs[&k]));
+                }
+                count(&mut counts, format!("lag {}: {words}", yard.delay));
+                count(&mut counts, format!("{name}: {words}"));
+            }
+        }
+    }
+    let answers = ["yes", "bad word", "bad pair"];
+    let by_lag = (0..7).flat_map(|lag| answers.map(|answer| format!("lag {lag}: {answer}")));
+    let by_fault = ["{WrongSide}", "{Unsafe}", "{Spoilt}"].map(|faults| format!("bad pair by {faults}"));
+    let by_table = ["commands taken: yes", "wholly random: yes", "flag added: yes"].map(String::from);
+    report("random tables", &counts, &by_lag.chain(by_fault).chain(by_table).collect::<Vec<_>>());
+}
+
+fn flipped(sheet: &[u8], bit: usize) -> Vec<u8> {
+    let mut other = sheet.to_vec();
+    other[bit / 8] ^= 1 << (bit % 8);
+    other
+}
+
+/// Our tables with every single bit of the table's sheet or of the yard's turned over.
+#[test]
+fn every_bit() {
+    let mut random = Random::new(21);
+    let mut counts = Counts::new();
+    let known = [sheets::guess(), sheets::cut_guess(), sheets::split_gate(), sheets::looped(), sheets::hall(), sheets::long_hall()];
+    let known = known.into_iter().flat_map(|yard| (0..7).map(move |delay| yard.at(delay)));
+    let known = known.filter_map(|yard| ours(&yard).map(|table| (yard, table)));
+    let unknown = (0..30).map(|_| winning(&mut random)).filter(|(yard, _)| yard.pairs() <= 40);
+    for (yard, table) in known.chain(unknown) {
+        let (sheet, table) = (yard.sheet(), table.sheet());
+        for bit in 0..8 * table.len() {
+            count(&mut counts, format!("table's bit: {}", words_of(&judged(&sheet, &flipped(&table, bit)))));
+        }
+        for bit in 0..8 * sheet.len() {
+            count(&mut counts, format!("yard's bit: {}", words_of(&judged(&flipped(&sheet, bit), &table))));
+        }
+    }
+    let of_table = ["yes", "bad word", "bad pair", "refused 10", "refused 11", "refused 12", "refused 21"];
+    let of_table = of_table.iter().map(|words| format!("table's bit: {words}"));
+    let of_yard = ["yes", "bad word", "bad pair"].iter().map(|words| format!("yard's bit: {words}"));
+    let of_yard = of_yard.chain([1, 2, 3, 4, 5, 6, 21].map(|number| format!("yard's bit: refused {number}")));
+    report("every bit", &counts, &of_table.chain(of_yard).collect::<Vec<_>>());
+}
+
+#[test]
+fn damaged_sheets() {
+    let mut random = Random::new(1021);
+    let mut counts = Counts::new();
+    for _ in 0..10000 {
+        let (mut yard, mut table) = winning(&mut random);
+        if random.percent(10) {
+            yard.targets.remove(random.below(yard.targets.len()));
+        }
+        if random.percent(10) {
+            table.words.fill(0);
+        }
+        let (mut sheet, mut table) = (yard.sheet(), with_commands_taken(&mut random, &table).sheet());
+        for _ in 0..random.below(4) {
+            let damaged = if random.percent(40) { &mut sheet } else { &mut table };
+            if !damaged.is_empty() {
+                damage(&mut random, damaged);
+            }
+        }
+        count(&mut counts, words_of(&judged(&sheet, &table)));
+    }
+    let refused = [1, 2, 3, 4, 5, 6, 10, 11, 12, 21].map(|number| format!("refused {number}"));
+    report("damaged sheets", &counts, &[&refused[..], &["yes", "bad word", "bad pair"].map(String::from)].concat());
+}
+
+/// The sheet of a yard with these faults. It has 33 positions and eight commands, so that lag 4 is accepted and lag 6 is not.
+fn faulty_sheet(yard: &Yard, faults: &[u8]) -> Vec<u8> {
+    let has = |fault: u8| faults.contains(&fault);
+    let mut yard = yard.clone();
+    let last = *yard.moves.last().unwrap();
+    if has(2) {
+        yard.kinds[last[0] as usize] = 4;
+    }
+    if has(3) {
+        yard.start = last[0];
+    }
+    if has(4) {
+        yard.targets.push(yard.targets[0]);
+    }
+    if has(5) {
+        yard.moves.insert(1, yard.moves[0]);
+    }
+    if has(6) {
+        yard.moves.retain(|line| line[0] != last[0]);
+    }
+    if has(7) {
+        yard.delay = 6;
+    }
+    let mut sheet = yard.sheet();
+    sheet.extend(has(1).then_some(0));
+    sheet
+}
+
+fn faulty_table(table: &Table, other_start: u8, faults: &[u8]) -> Vec<u8> {
+    let has = |fault: u8| faults.contains(&fault);
+    let mut table = table.clone();
+    if has(12) {
+        table.words.fill(0);
+    }
+    if has(11) {
+        table.words[3] = 2;
+    }
+    if has(21) {
+        table.start = other_start;
+    }
+    let mut sheet = table.sheet();
+    sheet.extend(has(10).then_some(0));
+    sheet
+}
+
+/// Any number of faults at once: the answer is the first in the order written, which is that of the numbers, and a yes where there is none.
+#[test]
+fn order_of_refusals() {
+    let mut counts = Counts::new();
+    let shape = Shape { own: 17, environment: 16, actions: 8, permitted: 100, moves: 3, unsafe_positions: 0 };
+    let yard = random_yard(&mut Random::new(7), &shape).at(4);
+    let table = ours(&yard).unwrap();
+    let other_start = yard.targets.iter().map(|line| line[0]).find(|&p| p != yard.start).unwrap();
+    let all = [1, 2, 3, 4, 5, 6, 7, 10, 11, 12, 21];
+    for set in 0..1 << all.len() {
+        let faults: Vec<u8> = (0..all.len()).filter(|k| set >> k & 1 == 1).map(|k| all[k]).collect();
+        let (sheet, table) = (faulty_sheet(&yard, &faults), faulty_table(&table, other_start, &faults));
+        let expected = faults.first().map_or("yes".into(), |number| format!("refused {number}"));
+        let words = words_of(&judged(&sheet, &table));
+        assert_eq!(words, expected, "{faults:?}");
+        count(&mut counts, words);
+    }
+    report("order of refusals", &counts, &[&all.map(|n| format!("refused {n}"))[..], &["yes".into()]].concat());
+}
+
+/// A table without a mask, every first word flagged: readable, and judged with a bad word where its numbers are the yard's.
+fn without_masks(start: u8, actions: u8, delay: u8, highest: u8) -> Vec<u8> {
+    let yard = Yard { start, actions, delay, kinds: vec![0; highest as usize + 1], targets: Vec::new(), moves: Vec::new() };
+    let words = vec![1; (actions as usize).pow((delay as u32 + 1) / 2)];
+    table_of(&yard, words, vec![0; yard.pairs()]).sheet()
+}
+
+/// 21 exactly where one of the four numbers is not the yard's: each exact and one off, alone and together.
+#[test]
+fn other_numbers() {
+    let mut counts = Counts::new();
+    let near = |n: u8, least: u8, most: u8| n.saturating_sub(1).max(least)..=n.saturating_add(1).min(most);
+    let safe_chain = Yard { kinds: [0, 2].repeat(128), ..sheets::chain(128) };
+    let hall = |start: u8, delay: u8| Yard { start, ..sheets::hall().at(delay) };
+    for yard in [hall(1, 2), hall(2, 3), sheets::looped().at(6), safe_chain.at(1)] {
+        let (sheet, highest) = (yard.sheet(), (yard.kinds.len() - 1) as u8);
+        for h in near(highest, 1, 255) {
+            for start in near(yard.start, 0, h) {
+                for a in near(yard.actions, 1, 8) {
+                    for lag in near(yard.delay, 0, 6) {
+                        let exact = (start, a, lag, h) == (yard.start, yard.actions, yard.delay, highest);
+                        let words = words_of(&judged(&sheet, &without_masks(start, a, lag, h)));
+                        assert_eq!(words, if exact { "bad word" } else { "refused 21" });
+                        count(&mut counts, words);
+                    }
+                }
+            }
+        }
+        assert_eq!(words_of(&judged(&sheet, &without_masks(yard.start, 9, 2, highest))), "refused 11");
+    }
+    // with one command the tables of all lags have the same lengths
+    for (lag, other) in (0..7).flat_map(|lag| (0..7).map(move |other| (lag, other))) {
+        let words = words_of(&judged(&sheets::looped().at(lag).sheet(), &ours(&sheets::looped().at(other)).unwrap().sheet()));
+        assert_eq!(words, if lag == other { "yes" } else { "refused 21" });
+    }
+    report("other numbers", &counts, &["bad word", "refused 21"].map(String::from));
+}
+
+/// What offends is taken away, first things first, until the table gets a yes or no word is left.
+fn mended(sheet: &[u8], mut table: Table) -> Option<Table> {
+    loop {
+        match judged(sheet, &table.sheet()).map(|offences| offences.judgement()) {
+            Ok(Judgement::Sound) => return Some(table),
+            Ok(Judgement::Word(v)) => table.words[v] = 0,
+            Ok(Judgement::Pair(k)) => table.masks[k] &= table.masks[k] - 1,
+            Err(number) => {
+                assert_eq!(number, 12);
+                return None;
+            }
+        }
+    }
+}
+
+/// A flagged word and then commands out of the masks, drawn anew each time: the play goes on and is safe.
+fn any_choice(random: &mut Random, yard: &Yard, table: &Table) {
+    let game = Game::of(&yard.sheet(), &naive::read(&yard.sheet()).unwrap());
+    let flagged: Vec<usize> = (0..table.words.len()).filter(|&v| table.words[v] == 1).collect();
+    let (word, seed, delay) = (*random.pick(&flagged), random.next(), table.delay as usize);
+    safe_play(&game, seed, 40, |i, play, given| {
+        if 2 * i < delay {
+            return table.first_command(word, i);
+        }
+        let mask = table.mask(play[2 * i - delay], given);
+        let allowed: Vec<u8> = (0..8).filter(|c| mask >> c & 1 == 1).collect();
+        assert!(!allowed.is_empty(), "a play met a pair without a mask: {yard:?} {table:?}");
+        *random.pick(&allowed)
+    });
+}
+
+/// What a yes means: the cabin works by such a table as it does by ours, and so does any choice out of it.
+#[test]
+fn at_work() {
+    let mut random = Random::new(3);
+    let mut counts = Counts::new();
+    for round in 0..2000 {
+        let (yard, ours) = winning(&mut random);
+        let other = match round % 2 {
+            0 => Some(thinned(&mut random, &ours)),
+            _ => mended(&yard.sheet(), with_commands_taken(&mut random, &ours)),
+        };
+        let Some(table) = other else {
+            count(&mut counts, "mended until no word was left".into());
+            continue;
+        };
+        assert_eq!(words_of(&judged(&yard.sheet(), &table.sheet())), "yes");
+        assert_inside(&table, Some(&ours));
+        working::work(&mut random, &yard, &table.sheet(), &mut counts);
+        for _ in 0..3 {
+            any_choice(&mut random, &yard, &table);
+        }
+        let pairs = |table: &Table| table.masks.iter().filter(|&&mask| mask != 0).count();
+        for (kind, met) in [
+            ("a table with fewer commands than ours", table.masks != ours.masks),
+            ("a table with fewer pairs than ours", pairs(&table) < pairs(&ours)),
+            ("a table with fewer first words than ours", table.words != ours.words),
+        ] {
+            if met {
+                count(&mut counts, kind.into());
+            }
+        }
+    }
+    let tables = ["commands", "pairs", "first words"].map(|less| format!("a table with fewer {less} than ours"));
+    report("tables of others at work", &counts, &[&working::WANTED.map(String::from)[..], &tables].concat());
+}
+
+/// As many pairs as there may be: our table, one without its last pair's mask, and one with a mask at the last pair of the wrong side.
+#[test]
+fn largest_tables() {
+    let mut random = Random::new(16384);
+    let mut counts = Counts::new();
+    for (own, actions, delay) in [(16, 8, 6), (128, 8, 4), (128, 8, 5), (128, 4, 6)] {
+        let shape = Shape { own, environment: own, actions, permitted: 100, moves: 3, unsafe_positions: 0 };
+        let yard = random_yard(&mut random, &shape).at(delay);
+        assert_eq!(yard.pairs(), 16_384);
+        let table = ours(&yard).unwrap();
+        let last = |has: bool| (0..16_384).rfind(|&k| (table.masks[k] != 0) == has).unwrap();
+        let (mut without, mut with) = (table.clone(), table.clone());
+        without.masks[last(true)] = 0;
+        with.masks[last(false)] = 1 << (actions - 1);
+        for (name, table) in [("ours", &table), ("without the last mask", &without)] {
+            count(&mut counts, format!("{name}: {}", words_of(&judged(&yard.sheet(), &table.sheet()))));
+        }
+        assert_eq!(judged(&yard.sheet(), &with.sheet()).unwrap().judgement(), Judgement::Pair(last(false)));
+    }
+    report("largest tables", &counts, &["ours: yes", "without the last mask: bad pair"].map(String::from));
+}
+
+/// The sorting hall at lag 2, by hand: its masks are 1 1 2 2 3 0 0 3 and six 0.
+#[test]
+fn hall() {
+    let yard = sheets::hall().at(2);
+    let ours = ours(&yard).unwrap();
+    let with = |words: [u8; 2], masks: [u8; 8]| {
+        let table = table_of(&yard, words.to_vec(), [&masks[..], &[0; 6]].concat());
+        judged(&yard.sheet(), &table.sheet()).unwrap().judgement()
+    };
+    assert_eq!((&ours.words[..], &ours.masks[..8]), (&[1, 1][..], &[1, 1, 2, 2, 3, 0, 0, 3][..]));
+    assert_eq!(with([1, 1], [1, 1, 2, 2, 3, 0, 0, 3]), Judgement::Sound);
+    assert_eq!(with([1, 1], [1, 1, 2, 2, 2, 0, 0, 1]), Judgement::Sound);
+    assert_eq!(with([1, 1], [1, 1, 2, 2, 3, 0, 1, 3]), Judgement::Pair(6));
+    assert_eq!(with([1, 1], [1, 3, 2, 2, 3, 0, 0, 3]), Judgement::Pair(1));
+    // without pair 0 the commands that lead to it are spoilt, and the first word 0 is bad
+    assert_eq!(with([1, 1], [0, 1, 2, 2, 2, 0, 0, 2]), Judgement::Word(0));
+    assert_eq!(with([0, 1], [0, 1, 2, 2, 3, 0, 0, 2]), Judgement::Pair(4));
+    assert_eq!(with([0, 1], [0, 1, 2, 2, 2, 0, 0, 3]), Judgement::Pair(7));
+    assert_eq!(with([0, 1], [0, 1, 2, 2, 2, 0, 0, 2]), Judgement::Sound);
+}
