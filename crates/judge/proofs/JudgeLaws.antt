@@ -195,16 +195,16 @@ module _ (s : List ℕ) (l : Layout) (flags masks : List ℕ) (j : Judgeable s l
       node-found : k ≡ firstNot (nodeOk (arena G d) T) (suc (arena G d .nodes))
       node-found = ek ∙ first-same _ _ (arena G d .nodes) (node-is G (legal-game s l (j .reads)) d T (j .fits) marks marked)
 
-      pub judged-node : k < length masks → accepted (badNode k) ≡ accepted (ruling G d T)
+      pub judged-node : {n : ℕ} → n ≡ length masks → k < n → accepted (badNode k) ≡ accepted (ruling G d T)
       unfolding ruling
-      judged-node i =
-          let x = first-stopped (nodeOk (arena G d) T) node-found (rw (j .fits .masks-length) at i) in
+      judged-node e i =
+          let x = first-stopped (nodeOk (arena G d) T) node-found (rw (e, j .fits .masks-length) at i) in
           ap (λ i. accepted (badNode i)) (x .1) ∙ rw (words-pass, x .0)
 
-      pub judged-sound : length masks ≤ k → accepted sound ≡ accepted (ruling G d T)
+      pub judged-sound : {n : ℕ} → n ≡ length masks → n ≤ k → accepted sound ≡ accepted (ruling G d T)
       unfolding ruling
-      judged-sound i =
-          let x = first-ended (nodeOk (arena G d) T) node-found (rw (j .fits .masks-length) at i) in
+      judged-sound e i =
+          let x = first-ended (nodeOk (arena G d) T) node-found (rw (e, j .fits .masks-length) at i) in
           rw (words-pass, x)
 
 pub ruleset rulings = (needs, marks-room, judged-word, judged-node, judged-sound)

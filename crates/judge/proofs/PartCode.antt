@@ -51,12 +51,12 @@ module _ (masks marks : List ℕ) where
   pub marks-start : marks ≡ filled (markAt masks) 0 marks
   marks-start = filled-none (markAt masks) marks
 
-  pub marks-more : (k : ℕ) {v : ℕ} {l : List ℕ} → l ≡ filled (markAt masks) k marks → k < length masks → length masks ≤ length marks → v ≡ markAt masks k
-      → set l k v ≡ filled (markAt masks) (k + 1) marks
-  marks-more k e h r q = filled-more (markAt masks) marks k e (omega arith) q
+  pub marks-more : (k : ℕ) {n v : ℕ} {l : List ℕ} → l ≡ filled (markAt masks) k marks → n ≡ length masks → k < n → length masks ≤ length marks
+      → v ≡ markAt masks k → set l k v ≡ filled (markAt masks) (k + 1) marks
+  marks-more k e c h r q = filled-more (markAt masks) marks k e (omega arith) q
 
-  pub marks-done : (k : ℕ) {l : List ℕ} → l ≡ filled (markAt masks) k marks → length masks ≤ k → Marked masks l
-  marks-done k e h j i = rw e (filled-below (markAt masks) marks k j (omega arith))
+  pub marks-done : (k : ℕ) {n : ℕ} {l : List ℕ} → l ≡ filled (markAt masks) k marks → n ≡ length masks → n ≤ k → Marked masks l
+  marks-done k e c h j i = rw e (filled-below (markAt masks) marks k j (omega arith))
 
 pub ruleset marking = (needs, mark-at, marks-start, marks-more, marks-done)
 

@@ -18,6 +18,7 @@ use sheet::refusal::Refusal;
 use solver::words::initial_flags;
 use table::reading::TableLayout;
 use table::reading::TableReading;
+use table::reading::mask_count;
 use table::reading::mask_of;
 use table::reading::read as read_table;
 use walk::level::Level;
@@ -184,7 +185,7 @@ fn judge_marked(sheet: &[u8], l: Layout, flags: &[u8], masks: &[u8], marks: &mut
         return Judgement::BadWord(v);
     }
     let k = first_bad_node(sheet, l, masks, marks);
-    if k < masks.len() {
+    if k < mask_count(masks) {
         return Judgement::BadNode(k);
     }
     Judgement::Sound

@@ -5,6 +5,7 @@ use sheet::kinds::safe_at;
 use sheet::limits::INDEX;
 use sheet::limits::ROW;
 use sheet::limits::ROWS;
+use table::reading::mask_count;
 use table::reading::mask_of;
 use walk::level::Level;
 use walk::level::is_node;
@@ -32,8 +33,9 @@ pub(crate) fn fill_marks(masks: &[u8], marks: &mut [u16])
     requires { ⌜ length (now masks) ≤ length (now marks) ⌝ }
     ensures { λ r. ⌜ Marked (now (masks .entry)) (now (marks .exit)) ⌝ }
 {
+    let n = mask_count(masks);
     let mut k: usize = 0;
-    while k < masks.len() {
+    while k < n {
         marks[k] = mark_for(mask_of(masks, k));
         k += 1;
     }

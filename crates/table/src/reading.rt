@@ -14,7 +14,7 @@ use sheet::size::power;
 ghost use mathlib.Core.Path.{_≡_};
 ghost use mathlib.Core.List.{[]};
 ghost use Prim.Native.Nat.{_*_, _%_, _^_, _≤_};
-ghost use lib.ListN.{getD};
+ghost use lib.ListN.{length, getD};
 ghost use Rattle.sheet.specs.Limits.{mostActions, mostDelay};
 ghost use Rattle.sheet.specs.code.Steps.{mostPower};
 ghost use Rattle.table.specs.TableSheet.{tableLayout, says, bytesBelow, shapeAnswer, someFlagged, tableAnswer};
@@ -187,7 +187,14 @@ pub fn masks(sheet: &[u8]) -> &[u8]
     body(sheet, 2)
 }
 
-// The mask of node k in a T body; 0 where there is no such node. Those who judge a table read its masks here alone.
+// Those who judge a table read its T body by these two alone: how many masks it has, and the mask of node k, 0 where there is no such
+// node.
+pub fn mask_count(masks: &[u8]) -> usize
+    ensures { λ r. ⌜ r ≡ length (now (masks .entry)) ⌝ }
+{
+    masks.len()
+}
+
 pub fn mask_of(masks: &[u8], k: usize) -> usize
     ensures { λ r. ⌜ r ≡ getD (now (masks .entry)) k 0 ⌝ }
 {

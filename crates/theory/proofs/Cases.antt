@@ -1,7 +1,9 @@
--- Every case of specs/cases/Games.antt holds of the definitions, by computation. Assumes nothing.
+-- Every case of specs/cases holds of the definitions, by computation. Assumes nothing.
 use mathlib.Core.Path.{_≡_, refl}
 use mathlib.Core.List.{map}
 use Rattle.theory.specs.Reach.{reached}
+use Rattle.theory.specs.Judging.{ruling}
+use Rattle.theory.specs.cases.Tables.{judgings}
 use Rattle.theory.specs.cases.Games.{targetFrom, movesFrom, gameFrom, resultBy, resultOf, passing, chosen, slow, chained, turned, cases, cut, reachedGames, reachedNumbers}
 use Rattle.theory.proofs.Computing.{theory-computes}
 
@@ -12,3 +14,7 @@ cases-met = refl
 pub reached-met : map reached reachedGames ≡ reachedNumbers
 unfolding theory-computes targetFrom movesFrom gameFrom passing slow cut reachedGames reachedNumbers
 reached-met = refl
+
+pub judgings-met : map (λ j. ruling passing (j .delay) (j .table)) judgings ≡ map (λ j. j .answer) judgings
+unfolding theory-computes targetFrom movesFrom gameFrom passing judgings
+judgings-met = refl

@@ -7,5 +7,5 @@ pub judge-marked-spec : {M : Type 1} → statement M
 judge-marked-spec =
     tie.close
     (tie.spec (λ c κs. search rulings) (λ c κs. search rulings) (λ c. search rulings) (λ c. search rulings)
-    (λ c κs. search rulings) (λ c. search rulings) (λ c. search rulings) (λ c. search rulings)
-    (λ c. search rulings))
+    (λ c κs. search rulings) (λ c κs. search rulings) (λ c. search rulings) (λ c. search rulings)
+    (λ c. search rulings) (λ c. search rulings))
