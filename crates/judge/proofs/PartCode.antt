@@ -28,7 +28,7 @@ use Rattle.walk.specs.code.Levels.{arenaOf}
 use Rattle.walk.specs.code.Nodes.{Sized, isNode}
 use Rattle.walk.specs.code.Walks.{fallenBy, spoiltAnswer}
 use Rattle.walk.proofs.NodeLaws.{node-level, node-lt, at-action}
-use Rattle.solver.proofs.MaskLaws.{bit-first, bit-next, bit-fits}
+use Rattle.solver.proofs.MaskLaws.{bit-first, bit-fits}
 use Rattle.judge.specs.code.Parts.{markFor, markAt, Marked, bitLeft, stays, partOf, partIn}
 
 -- marks
@@ -160,6 +160,6 @@ module _ (p : List ℕ) (g : List (List ℕ)) (u f : List ℕ) (l : Level) (mark
       part-is n o q =
           q ∙ sym (there ∙ rw (both-true (here .right k) (here .safe k) (passed e n) (passed es o)))
 
-pub ruleset parting = (needs, part-first, bit-first, left-first, part-next, bit-next, left-next, part-done, part-fits, bit-fits)
+pub ruleset parting = (needs, part-first, bit-first, left-first, part-done, part-fits, bit-fits)
 
 pub ruleset a-part = (needs, node-level, node-lt, words-here, part-absent, part-wrong, part-unsafe, part-is)

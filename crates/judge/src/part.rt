@@ -33,11 +33,8 @@ pub(crate) fn fill_marks(masks: &[u8], marks: &mut [u16])
     requires { ⌜ length (now masks) ≤ length (now marks) ⌝ }
     ensures { λ r. ⌜ Marked (now (masks .entry)) (now (marks .exit)) ⌝ }
 {
-    let n = mask_count(masks);
-    let mut k: usize = 0;
-    while k < n {
+    for k in 0..mask_count(masks) {
         marks[k] = mark_for(mask_of(masks, k));
-        k += 1;
     }
 }
 
@@ -90,12 +87,10 @@ fn unspoilt_part(
     let mut part: usize = 0;
     let mut bit: usize = 1;
     let mut left = mask;
-    let mut c: usize = 0;
-    while c < level.actions {
+    for c in 0..level.actions {
         part += bit_left(p, grid, u, firsts, level, marks, k, c, left, bit);
         bit *= 2;
         left = left / 2;
-        c += 1;
     }
     part
 }

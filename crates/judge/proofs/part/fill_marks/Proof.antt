@@ -9,11 +9,11 @@ use Rattle.judge.proofs.part.fill_marks.Statement.{statement}
 use Rattle.judge.proofs.part.fill_marks.Tie as tie
 
 abbrev Inv-loop : tie.InvT-loop
-Inv-loop masks marks₀ n k₀ marks k =
-    (k ≤ length masks) × (length marks ≡ length marks₀) × (marks ≡ filled (markAt masks) k marks₀)
+Inv-loop masks marks₀ k₀ k-end marks k =
+    (k-end ≡ length masks) × (k ≤ length masks) × (length marks ≡ length marks₀) × (marks ≡ filled (markAt masks) k marks₀)
 
 abbrev μ-loop : tie.MeasureT-loop
-μ-loop masks marks₀ n k₀ marks k = length masks - k
+μ-loop masks marks₀ k₀ k-end marks k = length masks - k
 
 pub fill-marks-spec : {M : Type 1} → statement M
 fill-marks-spec =
