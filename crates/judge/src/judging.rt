@@ -202,6 +202,7 @@ fn judge_bodies(sheet: &[u8], l: Layout, flags: &[u8], masks: &[u8]) -> Judgemen
     judge_marked(sheet, l, flags, masks, &mut marks)
 }
 
+// Judging, for any two sheets.
 pub fn judge(sheet: &[u8], table: &[u8]) -> Judgement
     ensures { λ r. ⌜ judgementMeans r ≡ judgeAnswer (now (sheet .entry)) (now (table .entry)) ⌝ }
 {
