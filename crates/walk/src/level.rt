@@ -66,6 +66,7 @@ pub fn is_sized(positions: usize, level: Level) -> bool
     level.nodes == positions * level.words
 }
 
+// Is there a node k at so many positions?
 pub fn is_node(positions: usize, level: Level, k: usize) -> bool
     ensures { λ r. ⌜ r ≡ isNode positions level k ⌝ }
 {
