@@ -29,7 +29,8 @@ pub record Winning (s : List ℕ) (σ : Strategy (gameOf s .actions) (delayOf s)
       → (q : ℕ) × (gameOf s .target (last (gameOf s) π) (choice (delayOf s) σ π) ≡ to q)
   -- its infinite plays: none has an unsafe position, and against every rule of the yard there is one
   pub always-safe : (π : Infinite) → Outcome (gameOf s) (delayOf s) σ π → AllSafe (gameOf s) π
-  pub endless : (rule : Rule) → IsRule (gameOf s) rule → (π : Infinite) × Outcome (gameOf s) (delayOf s) σ π × Against rule π × AllSafe (gameOf s) π
+  pub endless : (rule : Rule) → IsRule (gameOf s) rule
+      → (π : Infinite) × Outcome (gameOf s) (delayOf s) σ π × Against rule π × AllSafe (gameOf s) π
 
 pub record Yes (s t : List ℕ) : Type 0 where
   pub winning : (σ : Strategy (gameOf s .actions) (delayOf s)) → Steered s t σ → Winning s σ

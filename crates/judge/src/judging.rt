@@ -29,17 +29,15 @@ ghost use lib.ListN.{length};
 ghost use Rattle.theory.specs.Answer.{accepted};
 ghost use Rattle.theory.specs.Fold.{firstNot};
 ghost use Rattle.theory.specs.Delay.{arena};
-ghost use Rattle.theory.specs.Judging.{ruling};
 ghost use Rattle.sheet.specs.Limits.{mostNodes};
 ghost use Rattle.sheet.specs.Bodies.{delayOf};
 ghost use Rattle.sheet.specs.Reading.{readAnswer};
 ghost use Rattle.sheet.specs.SheetGame.{gameOf};
-ghost use Rattle.walk.specs.code.Levels.{arenaOf};
 ghost use Rattle.walk.specs.code.Nodes.{Sized};
 ghost use Rattle.solver.specs.code.Flags.{flagsAfter};
 ghost use Rattle.judge.specs.Judging.{judgeAnswer, judgementMeans};
-ghost use Rattle.judge.specs.code.Parts.{wholeAt, flagStands, goodFlags};
-ghost use Rattle.judge.specs.code.Judgeable.{tableWith, layoutsAgree, Judgeable};
+ghost use Rattle.judge.specs.code.Parts.{wholeAt, wholeIn, flagStands, goodFlags};
+ghost use Rattle.judge.specs.code.Judgeable.{layoutsAgree, Judgeable, ruledOn};
 
 // The number of the first offending word in W, or of the first offending node.
 pub enum Judgement {
@@ -102,7 +100,9 @@ fn first_wrong_in(sheet: &[u8], flags: &[u8], marks: &[u16], good: &mut [u8]) ->
 // The same with a buffer of its own. Nothing else is done beside the array: a proof's search breaks off with a large one in scope.
 fn first_bad_word(sheet: &[u8], flags: &[u8], marks: &[u16]) -> usize
     ensures { λ r.
-        ⌜ r ≡ firstNot (flagStands (now (flags .entry)) (goodFlags (now (sheet .entry)) (now (marks .entry)))) (suc (length (now (flags .entry)))) ⌝ }
+        ⌜ r
+        ≡ firstNot (flagStands (now (flags .entry)) (goodFlags (now (sheet .entry)) (now (marks .entry))))
+        (suc (length (now (flags .entry)))) ⌝ }
 {
     let mut good = [0u8; MOST_WORDS];
     first_wrong_in(sheet, flags, marks, &mut good)
@@ -122,7 +122,8 @@ fn is_whole(
     requires { ⌜ (Sized (length (now p)) level) × (k < level .nodes) ⌝ }
     ensures { λ r.
         ⌜ r
-        ≡ wholeAt (arenaOf (now (p .entry)) (now (grid .entry)) (now (u .entry)) (now (firsts .entry)) level) (now (marks .entry)) (now (masks .entry)) k ⌝ }
+        ≡ wholeIn (now (p .entry)) (now (grid .entry)) (now (u .entry)) (now (firsts .entry)) level (now (marks .entry))
+        (now (masks .entry)) k ⌝ }
 {
     let mask = mask_of(masks, k);
     allowed_part(p, grid, u, firsts, level, marks, k, mask) == mask
@@ -142,7 +143,8 @@ fn first_unsound(
     ensures { λ r.
         ⌜ r
         ≡ firstNot
-        (wholeAt (arenaOf (now (p .entry)) (now (grid .entry)) (now (u .entry)) (now (firsts .entry)) level) (now (marks .entry)) (now (masks .entry)))
+        (wholeIn (now (p .entry)) (now (grid .entry)) (now (u .entry)) (now (firsts .entry)) level (now (marks .entry))
+        (now (masks .entry)))
         (suc (level .nodes)) ⌝ }
 {
     for k in 0..level.nodes {
@@ -175,9 +177,7 @@ fn first_bad_node(sheet: &[u8], l: Layout, masks: &[u8], marks: &[u16]) -> usize
 // Judging by the W and T bodies, with a lent buffer for the marks: words before nodes.
 fn judge_marked(sheet: &[u8], l: Layout, flags: &[u8], masks: &[u8], marks: &mut [u16]) -> Judgement
     requires { ⌜ (Judgeable (now sheet) l (now flags) (now masks)) × (mostNodes ≤ length (now marks)) ⌝ }
-    ensures { λ r.
-        ⌜ judgementMeans r
-        ≡ accepted (ruling (gameOf (now (sheet .entry))) (delayOf (now (sheet .entry))) (tableWith (now (flags .entry)) (now (masks .entry)))) ⌝ }
+    ensures { λ r. ⌜ judgementMeans r ≡ ruledOn (now (sheet .entry)) (now (flags .entry)) (now (masks .entry)) ⌝ }
 {
     fill_marks(masks, marks);
     let v = first_bad_word(sheet, flags, marks);
@@ -194,9 +194,7 @@ fn judge_marked(sheet: &[u8], l: Layout, flags: &[u8], masks: &[u8], marks: &mut
 // The same with a buffer of its own.
 fn judge_bodies(sheet: &[u8], l: Layout, flags: &[u8], masks: &[u8]) -> Judgement
     requires { ⌜ Judgeable (now sheet) l (now flags) (now masks) ⌝ }
-    ensures { λ r.
-        ⌜ judgementMeans r
-        ≡ accepted (ruling (gameOf (now (sheet .entry))) (delayOf (now (sheet .entry))) (tableWith (now (flags .entry)) (now (masks .entry)))) ⌝ }
+    ensures { λ r. ⌜ judgementMeans r ≡ ruledOn (now (sheet .entry)) (now (flags .entry)) (now (masks .entry)) ⌝ }
 {
     let mut marks = [0u16; MOST_NODES];
     judge_marked(sheet, l, flags, masks, &mut marks)

@@ -14,10 +14,9 @@ ghost use mathlib.Core.Path.{_≡_};
 ghost use Prim.Native.Nat.{_≤_, _<_};
 ghost use lib.ListN.{length};
 ghost use Rattle.theory.specs.Rounds.{maskBelow};
-ghost use Rattle.walk.specs.code.Levels.{arenaOf};
 ghost use Rattle.walk.specs.code.Nodes.{Sized};
-ghost use Rattle.walk.specs.code.Walks.{fallenBy, spoiltAnswer};
-ghost use Rattle.judge.specs.code.Parts.{markFor, Marked, bitLeft, stays, partIn};
+ghost use Rattle.walk.specs.code.Walks.{spoiltAnswer};
+ghost use Rattle.judge.specs.code.Parts.{markFor, Marked, bitLeft, staysIn, partIn};
 
 fn mark_for(mask: usize) -> u16
     ensures { λ r. ⌜ r ≡ markFor mask ⌝ }
@@ -81,7 +80,7 @@ fn unspoilt_part(
     ensures { λ r.
         ⌜ r
         ≡ maskBelow
-        (stays (arenaOf (now (p .entry)) (now (grid .entry)) (now (u .entry)) (now (firsts .entry)) level) (fallenBy 1 (now (marks .entry))) k mask)
+        (staysIn (now (p .entry)) (now (grid .entry)) (now (u .entry)) (now (firsts .entry)) level (now (marks .entry)) k mask)
         (level .actions) ⌝ }
 {
     let mut part: usize = 0;

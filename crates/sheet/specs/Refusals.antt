@@ -4,7 +4,8 @@ use Prim.Native.Nat.{ℕ}
 use Rattle.sheet.specs.declared.refusal.Refusal.{Refusal}
 use Rattle.sheet.specs.declared.refusal.Refusal.the-variants.{Contents, Positions, Header, Targets, Moves, Stuck, Size, Buffers}
 use Rattle.sheet.specs.declared.refusal.Refusal.the-variants.{Output, TableContents, TableShape, NoInitialWord, Unobserved, NoAction}
-use Rattle.sheet.specs.declared.refusal.Refusal.the-variants.{LastTurn, UnknownPosition, TooOld, TooNew, Contradiction, State, Mismatch}
+use Rattle.sheet.specs.declared.refusal.Refusal.the-variants.{LastTurn, UnknownPosition, TooOld, TooNew, Contradiction, State}
+use Rattle.sheet.specs.declared.refusal.Refusal.the-variants.{Mismatch}
 
 abbrev pub numberOf : Refusal → ℕ
 numberOf Contents = 1

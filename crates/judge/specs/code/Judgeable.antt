@@ -5,8 +5,9 @@ use mathlib.Core.Bool.{Bool}
 use mathlib.Core.List.{List}
 use lib.Dec.{eqb}
 use Rattle.theory.specs.Fold.{both}
-use Rattle.theory.specs.Answer.{accepted}
+use Rattle.theory.specs.Answer.{Answer, accepted}
 use Rattle.theory.specs.Table.{Table, Fits}
+use Rattle.theory.specs.Judging.{Ruling, ruling}
 use Rattle.sheet.specs.Bodies.{delayOf}
 use Rattle.sheet.specs.Reading.{readAnswer}
 use Rattle.sheet.specs.SheetGame.{gameOf}
@@ -16,6 +17,10 @@ use Rattle.table.specs.declared.reading.TableLayout.{TableLayout}
 -- the table of a W and a T body
 abbrev pub tableWith : List ℕ → List ℕ → Table
 tableWith flags masks = record { flags = flags; masks = masks }
+
+-- the answer once every check has passed
+abbrev pub ruledOn : List ℕ → List ℕ → List ℕ → Answer Ruling
+ruledOn s flags masks = accepted (ruling (gameOf s) (delayOf s) (tableWith flags masks))
 
 -- check 21 over the two layouts
 unfoldable pub layoutsAgree : Layout → TableLayout → Bool

@@ -38,13 +38,20 @@ stays E fallen k m c = both (bit m c) (not (spoiltBy E fallen k c))
 unfoldable pub partOf : Arena → (ℕ → Bool) → ℕ → ℕ → ℕ
 partOf E fallen k m = cond (both (E .right k) (E .safe k)) (maskBelow (stays E fallen k m) (E .actions)) 0
 
--- the same over the arrays, for any numbers: nothing where there is no such node
+-- both over the arrays, what has fallen being the nodes with the mark 1
+abbrev pub staysIn : List ℕ → List (List ℕ) → List ℕ → List ℕ → Level → List ℕ → ℕ → ℕ → ℕ → Bool
+staysIn p g u f l marks k m = stays (arenaOf p g u f l) (fallenBy 1 marks) k m
+
+-- for any numbers: nothing where there is no such node
 unfoldable pub partIn : List ℕ → List (List ℕ) → List ℕ → List ℕ → Level → List ℕ → ℕ → ℕ → ℕ
 partIn p g u f l marks k m = cond (isNode (length p) l k) (partOf (arenaOf p g u f l) (fallenBy 1 marks) k m) 0
 
 -- the whole mask of node k may stand
 unfoldable pub wholeAt : Arena → List ℕ → List ℕ → ℕ → Bool
 wholeAt E marks masks k = eqb (partOf E (fallenBy 1 marks) k (getD masks k 0)) (getD masks k 0)
+
+abbrev pub wholeIn : List ℕ → List (List ℕ) → List ℕ → List ℕ → Level → List ℕ → List ℕ → ℕ → Bool
+wholeIn p g u f l marks masks = wholeAt (arenaOf p g u f l) marks masks
 
 -- word v has no flag, or is good
 unfoldable pub flagStands : List ℕ → List ℕ → ℕ → Bool
