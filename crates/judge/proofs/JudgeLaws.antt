@@ -35,10 +35,11 @@ use Rattle.sheet.proofs.Legality.{legal-game}
 use Rattle.walk.specs.declared.level.Level.{Level}
 use Rattle.walk.specs.code.Levels.{arenaOf, levelAt, levelTo}
 use Rattle.walk.specs.code.Nodes.{Sized}
-use Rattle.walk.proofs.LevelLaws.{level-sized, arena-is}
+use Rattle.walk.proofs.LevelLaws.{arena-is}
 use Rattle.walk.proofs.NodeLaws.{node-tested}
 use Rattle.solver.specs.code.Flags.{flagsAfter}
-use Rattle.solver.proofs.SolveLaws.{room-read, game-read, is-level}
+use Rattle.solver.proofs.SolveLaws.{game-read, is-level}
+use Rattle.solver.proofs.FlagLaws.{sized-read}
 use Rattle.table.specs.TableSheet.{tableAt, tableAnswer, tableReadingMeans}
 use Rattle.table.specs.declared.reading.TableLayout.{TableLayout}
 use Rattle.table.specs.declared.reading.TableReading.{TableReading}
@@ -135,7 +136,7 @@ module _ (s : List ℕ) (l : Layout) (reads : readAnswer s ≡ accepted l) (p : 
   level-is = is-level s (reading.Accepted l) (sym reads) l refl p ep v made
 
   pub sized-here : Sized (length p) v
-  sized-here = rw level-is (level-sized (room-read s (reading.Accepted l) (sym reads) l refl p ep) (l .start))
+  sized-here = sized-read s (reading.Accepted l) (sym reads) l refl p ep v made
 
   module _ (c u : List ℕ) (g : List (List ℕ)) (f : List ℕ) (ec : c ≡ partAt s (l .targets)) (eg : g ≡ gridOf c) (eu : u ≡ partAt s (l .moves))
       (ef : f ≡ firstsOf u) where

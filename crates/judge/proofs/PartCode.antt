@@ -19,7 +19,7 @@ use Rattle.theory.specs.Delay.{onRight}
 use Rattle.theory.specs.Table.{bit}
 use Rattle.theory.proofs.Fold.{both-none, both-false, both-true, failed, passed}
 use Rattle.theory.proofs.Filling.{filled, filled-none, filled-more, filled-below}
-use Rattle.theory.proofs.Masks.{mask-lt}
+use Rattle.theory.proofs.Masks.{mask-first, mask-next, mask-done, cond-le, mask-lt}
 use Rattle.sheet.specs.Limits.{mostActions}
 use Rattle.sheet.specs.Kinds.{controllerAt, safeAt}
 use Rattle.sheet.specs.code.Arrays.{viewOf}
@@ -88,31 +88,15 @@ left-first m = sym (div-one m)
 pub left-next : (m c : ℕ) {left : ℕ} → left ≡ m / 2 ^ c → left / 2 ≡ m / 2 ^ (c + 1)
 left-next m c e = rw (e, add-one c, pow-suc 2 c) (div-div-eq-div-mul m (2 ^ c) 2)
 
-module _ (p : ℕ → Bool) where
-  pub part-first : 0 ≡ maskBelow p 0
-  unfolding maskBelow
-  part-first = refl
-
-  part-suc : (c : ℕ) → maskBelow p (c + 1) ≡ maskBelow p c + cond (p c) (2 ^ c) 0
-  unfolding maskBelow
-  part-suc c = rw (add-one c)
-
-  pub part-done : {c n m : ℕ} → c ≤ n → n ≤ c → m ≡ maskBelow p c → m ≡ maskBelow p n
-  part-done {c} {n} h g e = let q : c ≡ n = omega arith in rw q at e
-
-  pub part-fits : (c left : ℕ) (s : Bool) {a m r b : ℕ} → m ≡ maskBelow p c → b ≡ 2 ^ c → r ≡ bitLeft left s b → c < a → a ≤ mostActions
-      → Fits w64 (m + r)
-  unfolding bitLeft
-  part-fits c left s {a} {m} {r} {b} e f g h l =
-      let n = mask-lt p c in
-      let i : c ≤ mostActions = omega arith in
-      let o : 2 ^ c ≤ 2 ^ mostActions = pow-mono i in
-      let q : r ≤ b = rw g (small (both (eqb (left % 2) 1) (not s)) b) in
-      record { fits = omega arith }
-    where
-      small : (t : Bool) (b : ℕ) → cond t b 0 ≤ b
-      small true b = omega arith
-      small false b = omega arith
+pub part-fits : (p : ℕ → Bool) (c left : ℕ) (s : Bool) {a m r b : ℕ} → m ≡ maskBelow p c → b ≡ 2 ^ c → r ≡ bitLeft left s b → c < a
+    → a ≤ mostActions → Fits w64 (m + r)
+unfolding bitLeft
+part-fits p c left s {a} {m} {r} {b} e f g h l =
+    let n = mask-lt p c in
+    let i : c ≤ mostActions = omega arith in
+    let o : 2 ^ c ≤ 2 ^ mostActions = pow-mono i in
+    let q : r ≤ b = rw g (cond-le (both (eqb (left % 2) 1) (not s)) b) in
+    record { fits = omega arith }
 
 module _ (p : List ℕ) (g : List (List ℕ)) (u f : List ℕ) (l : Level) (marks : List ℕ) (k : ℕ) where
   abbrev here : Arena
@@ -128,7 +112,7 @@ module _ (p : List ℕ) (g : List (List ℕ)) (u f : List ℕ) (l : Level) (mark
       let q : r ≡ cond (stays here (fallenBy 1 marks) k mask c) (2 ^ c) 0 = er ∙ rw (s, el, eb) in
       ap (λ x. m + x) q
       ∙ ap (λ x. x + cond (stays here (fallenBy 1 marks) k mask c) (2 ^ c) 0) e
-      ∙ sym (part-suc (stays here (fallenBy 1 marks) k mask) c)
+      ∙ sym (mask-next (stays here (fallenBy 1 marks) k mask) c)
 
   -- the node's side and safety before
 
@@ -160,6 +144,6 @@ module _ (p : List ℕ) (g : List (List ℕ)) (u f : List ℕ) (l : Level) (mark
       part-is n o q =
           q ∙ sym (there ∙ rw (both-true (here .right k) (here .safe k) (passed e n) (passed es o)))
 
-pub ruleset parting = (needs, part-first, bit-first, left-first, part-done, part-fits, bit-fits)
+pub ruleset parting = (needs, mask-first, bit-first, left-first, mask-done, part-fits, bit-fits)
 
 pub ruleset a-part = (needs, node-level, node-lt, words-here, part-absent, part-wrong, part-unsafe, part-is)

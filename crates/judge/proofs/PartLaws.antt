@@ -16,21 +16,16 @@ use Rattle.theory.specs.Table.{Table, lacks, has, bit, allows, Fits}
 use Rattle.theory.specs.Judging.{nodeOk}
 use Rattle.theory.proofs.Fold.{bool, not-both, same-test, both-true, both-left, both-right, both-none}
 use Rattle.theory.proofs.Masks.{bits-ext, mask-lt, mask-bit, zero-bit}
-use Rattle.theory.proofs.Rounds.{unspoilt, unspoilt-outcome}
-use Rattle.theory.proofs.Tables.{has-mask, lacks-has, step-legal}
+use Rattle.theory.proofs.Rounds.{unspoilt}
+use Rattle.theory.proofs.Tables.{has-mask, lacks-has, unspoilt-too}
 use Rattle.theory.proofs.Judging.{Stands, node-stands, stands-node}
 use Rattle.walk.specs.code.Walks.{fallenBy}
 use Rattle.judge.specs.code.Parts.{markFor, markAt, Marked, stays, partOf, wholeAt}
 
--- two readings of what has fallen that agree at the nodes spoil the same actions
-module _ (G : Game) (legal : Legal G) (d : ℕ) (f g : ℕ → Bool) (same : (k : ℕ) → k < arena G d .nodes → f k ≡ g k) where
-  unspoilt-too : (k c : ℕ) → spoiltBy (arena G d) f k c ≡ false → spoiltBy (arena G d) g k c ≡ false
-  unspoilt-too k c e =
-      unspoilt (arena G d) g k c
-      (λ o i.
-      let x = unspoilt-outcome (arena G d) f k c e i in
-      let l = step-legal G legal d k c (x .0) (rw (x .1) at i) in
-      (x .0, x .1, sym (same (x .0) (l .0)) ∙ x .2))
+-- a part that is not 0 is that of a node of the right side at a safe position
+part-stands : (b : Bool) (m : ℕ) → (cond b m 0 ≡ 0 → ⊥) → (b ≡ true) × (cond b m 0 ≡ m)
+part-stands true m n = (refl, refl)
+part-stands false m n = absurd (n refl)
 
 module _ (E : Arena) (fallen : ℕ → Bool) (T : Table) (k : ℕ) (small : getD (T .masks) k 0 < 2 ^ E .actions)
     (less : (c : ℕ) → spoiltBy E fallen k c ≡ false → spoiltBy E (lacks T) k c ≡ false)
@@ -40,11 +35,6 @@ module _ (E : Arena) (fallen : ℕ → Bool) (T : Table) (k : ℕ) (small : getD
 
   abbrev part : ℕ
   part = partOf E fallen k mask
-
-  -- a part that is not 0 has a node of the right side and a safe position
-  part-stands : (b : Bool) (m : ℕ) → (cond b m 0 ≡ 0 → ⊥) → (b ≡ true) × (cond b m 0 ≡ m)
-  part-stands true m n = (refl, refl)
-  part-stands false m n = absurd (n refl)
 
   whole-stands : part ≡ mask → has T k ≡ true → Stands E T k
   unfolding partOf stays allows

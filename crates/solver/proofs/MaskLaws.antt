@@ -15,7 +15,7 @@ use borrow.Author.Needs.{needs}
 use borrow.Author.Tests.{not-true, not-false}
 use Rattle.theory.specs.Fold.{both, tabulate}
 use Rattle.theory.specs.Rounds.{Arena, spoiltBy, maskBelow, maskAt, masksBy, keptBy}
-use Rattle.theory.proofs.Masks.{mask-lt}
+use Rattle.theory.proofs.Masks.{mask-first, mask-next, mask-done, mask-lt}
 use Rattle.walk.specs.declared.level.Level.{Level}
 use Rattle.walk.specs.code.Levels.{arenaOf}
 use Rattle.sheet.specs.code.Arrays.{viewOf}
@@ -47,12 +47,12 @@ allowedBelow E n ranks k c = maskBelow (λ a. not (spoiltBy E (fallenBy n ranks)
 
 module _ (E : Arena) (n : ℕ) (ranks : List ℕ) (k : ℕ) where
   pub bits-start : 0 ≡ allowedBelow E n ranks k 0
-  unfolding allowedBelow maskBelow
-  bits-start = refl
+  unfolding allowedBelow
+  bits-start = mask-first _
 
   bits-suc : (c : ℕ) → allowedBelow E n ranks k (c + 1) ≡ allowedBelow E n ranks k c + cond (not (spoiltBy E (fallenBy n ranks) k c)) (2 ^ c) 0
-  unfolding allowedBelow maskBelow
-  bits-suc c = rw (add-one c)
+  unfolding allowedBelow
+  bits-suc c = mask-next _ c
 
   pub bits-small : (c : ℕ) {m : ℕ} → m ≡ allowedBelow E n ranks k c → c ≤ mostActions → m < 2 ^ mostActions
   unfolding allowedBelow
@@ -94,7 +94,7 @@ module _ (p : List ℕ) (g : List (List ℕ)) (u f : List ℕ) (l : Level) (n : 
 
   pub bits-done : (c : ℕ) {m : ℕ} → c ≤ l .actions → l .actions ≤ c → m ≡ allowedBelow here n ranks k c → m ≡ allowedIn here n ranks k
   unfolding allowedBelow allowedIn arenaOf viewOf
-  bits-done c {m} h j e = let q : c ≡ l .actions = omega arith in rw q at e
+  bits-done c {m} h j e = mask-done _ h j e
 
   pub mask-lost : {r : Bool} → r ≡ keptBy (onSide p l) ranks k → not r ≡ true → 0 ≡ maskAt here ranks k
   unfolding maskAt

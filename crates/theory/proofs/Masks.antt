@@ -6,7 +6,7 @@ use mathlib.Core.Bool.{Bool, true, false, not, cond}
 use mathlib.Core.Logic.{⊎-elim}
 use native.Mathlib.Omega.{arith}
 use native.Mathlib.Nat.{le-refl, div-one, div-eq-of-lt, lt-of-lt-of-le}
-use native.Mathlib.Numerals.{one-add}
+use native.Mathlib.Numerals.{add-one, one-add}
 use lib.Dec.{eqb}
 use lib.Pow.{pow-pos, pow-mono, shr-shr}
 use lib.Count.{trailingZeros}
@@ -85,14 +85,27 @@ unfolding maskBelow
 mask-front p zero = omega arith
 mask-front p (suc n) = omega (arith, mask-front p n, twice (p (suc n)) n)
 
-part : (b : Bool) (n : ℕ) → cond b (2 ^ n) 0 ≤ 2 ^ n
-part true n = le-refl (2 ^ n)
-part false n = zero-le
+-- and built from the lowest up, as a loop does
+module _ (p : ℕ → Bool) where
+  pub mask-first : 0 ≡ maskBelow p 0
+  unfolding maskBelow
+  mask-first = refl
+
+  pub mask-next : (c : ℕ) → maskBelow p (c + 1) ≡ maskBelow p c + cond (p c) (2 ^ c) 0
+  unfolding maskBelow
+  mask-next c = rw (add-one c)
+
+  pub mask-done : {c n m : ℕ} → c ≤ n → n ≤ c → m ≡ maskBelow p c → m ≡ maskBelow p n
+  mask-done {c} {n} h g e = let q : c ≡ n = omega arith in rw q at e
+
+pub cond-le : (b : Bool) (n : ℕ) → cond b n 0 ≤ n
+cond-le true n = le-refl n
+cond-le false n = zero-le
 
 pub mask-lt : (p : ℕ → Bool) (n : ℕ) → maskBelow p n < 2 ^ n
 unfolding maskBelow
 mask-lt p zero = omega arith
-mask-lt p (suc n) = omega (arith, mask-lt p n, part (p n) n)
+mask-lt p (suc n) = omega (arith, mask-lt p n, cond-le (p n) (2 ^ n))
 
 pub mask-bit : (p : ℕ → Bool) (n c : ℕ) → c < n → bit (maskBelow p n) c ≡ p c
 mask-bit p zero c h = absurd (omega arith)

@@ -1,7 +1,7 @@
 -- Tables (specs/Table.antt), whoever made them: any choice out of a judged table wins, and every step of a legal game stays among its
 -- nodes. Assumes nothing.
 use Prim.Native.Nat.{ℕ, _+_, _*_, _/_, _%_, _<_}
-use mathlib.Core.Path.{_≡_, refl, _∙_, ap}
+use mathlib.Core.Path.{_≡_, refl, sym, _∙_, ap}
 use mathlib.Core.Bool.{Bool, true, false, not}
 use mathlib.Core.Logic.{⊎-elim}
 use mathlib.Core.List.{List·Memᴰ, Memᴰ·of-map}
@@ -13,7 +13,7 @@ use borrow.Author.Tests.{eqb-false, ne-eqb, not-true}
 use Rattle.theory.specs.Game.{Game, Target, absent, to, Legal}
 use Rattle.theory.specs.Play.{Play}
 use Rattle.theory.specs.Strategy.{initialLength, Strategy, Wins}
-use Rattle.theory.specs.Rounds.{masks}
+use Rattle.theory.specs.Rounds.{spoiltBy, masks}
 use Rattle.theory.specs.Delay.{odd, words, initialWords, onRight, movedTo, playedTo, outcomes, step, arena, goodFrom}
 use Rattle.theory.specs.Table.{Table, flagged, lacks, has, bit, allows, Judged, node, Obeys}
 use Rattle.theory.proofs.Fold.{bool, not-both}
@@ -113,6 +113,16 @@ module _ (G : Game) (legal : Legal G) (d : ℕ) where
       reach true e i =
           let (p, h, y, q) = odd-reach _ _ k′ i in
           found p _ h (right-odd G (odd d) p e ∙ ap not y) (mod-lt _ words-some) q
+
+  -- so two readings of what has fallen that agree at the nodes spoil the same actions
+  pub unspoilt-too : (f g : ℕ → Bool) → ((k : ℕ) → k < arena G d .nodes → f k ≡ g k) → (k c : ℕ) → spoiltBy (arena G d) f k c ≡ false
+      → spoiltBy (arena G d) g k c ≡ false
+  unspoilt-too f g same k c e =
+      unspoilt (arena G d) g k c
+      (λ o i.
+      let x = unspoilt-outcome (arena G d) f k c e i in
+      let l = step-legal k c (x .0) (rw (x .1) at i) in
+      (x .0, x .1, sym (same (x .0) (l .0)) ∙ x .2))
 
   pub even-word : (v : ℕ) → odd d ≡ false → v < initialWords G d → v < words G d
   unfolding initialWords words
