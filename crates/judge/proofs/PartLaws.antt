@@ -22,7 +22,7 @@ use Rattle.theory.proofs.Judging.{Stands, node-stands, stands-node}
 use Rattle.walk.specs.code.Walks.{fallenBy}
 use Rattle.judge.specs.code.Parts.{markFor, markAt, Marked, stays, partOf, wholeAt}
 
--- a part that is not 0 is that of a node of the right side at a safe position
+-- a number behind a test: where it is not 0, the test passed
 part-stands : (b : Bool) (m : ℕ) → (cond b m 0 ≡ 0 → ⊥) → (b ≡ true) × (cond b m 0 ≡ m)
 part-stands true m n = (refl, refl)
 part-stands false m n = absurd (n refl)

@@ -8,7 +8,6 @@ use native.Mathlib.Omega.{arith}
 use lib.Dec.{eqb}
 use lib.ListN.{length, getD, replicate, length-replicate}
 use Rattle.theory.specs.Game.{Game, Legal}
-use Rattle.theory.specs.Strategy.{initialLength}
 use Rattle.theory.specs.Rounds.{fell, keptBy}
 use Rattle.theory.specs.Delay.{initialWords, arena, goodFrom, goodWith, flagBy}
 use Rattle.theory.specs.Table.{Table, flagged, lacks, has, Fits}
@@ -22,7 +21,7 @@ use Rattle.sheet.specs.SheetGame.{gameOf}
 use Rattle.sheet.specs.declared.reading.Layout.{Layout}
 use Rattle.sheet.proofs.Accepted.{read-is, ranges}
 use Rattle.sheet.proofs.Legality.{legal-game}
-use Rattle.sheet.proofs.SizeLaws.{power-bound}
+use Rattle.sheet.proofs.SizeLaws.{few-first-words}
 use Rattle.solver.specs.code.Flags.{flagWith, flagsAfter}
 use Rattle.solver.proofs.FlagLaws.{words-counted}
 use Rattle.judge.specs.code.Parts.{markFor, markAt, Marked, flagStands, goodFlags}
@@ -52,17 +51,17 @@ module _ (G : Game) (legal : Legal G) (d : ℕ) (T : Table) (fits : Fits G d T) 
       rw (e, not-not (eqb (getD (T .flags) v 0) 0), flag-test (goodWith G d marks v), good-same v h)
 
 module _ (s : List ℕ) (l : Layout) (flags masks : List ℕ) (j : Judgeable s l flags masks) (marks : List ℕ) (marked : Marked masks marks) where
-  few-first-words : initialWords (gameOf s) (delayOf s) ≤ mostWords
+  few-words : initialWords (gameOf s) (delayOf s) ≤ mostWords
   unfolding initialWords gameOf
-  few-first-words =
+  few-words =
       let r = ranges s (read-is s l (j .reads) .0) in
-      power-bound (actionCount s) (initialLength (delayOf s)) (r .few-actions) (omega (arith, r .short-delay))
+      few-first-words (actionCount s) (delayOf s) (r .few-actions) (r .short-delay)
 
   flag-in : (b : List ℕ) (v : ℕ) → mostWords ≤ length b → v < initialWords (gameOf s) (delayOf s)
       → getD (flagsAfter s marks b) v 0 ≡ flagBy (goodWith (gameOf s) (delayOf s) marks) v
   unfolding flagsAfter flagWith
   flag-in b v room h =
-      let n = words-counted s l (length b) (j .reads) (omega (arith, few-first-words)) in
+      let n = words-counted s l (length b) (j .reads) (omega (arith, few-words)) in
       over-front _ b v (rw (n, length-tabulate (flagBy (goodWith (gameOf s) (delayOf s) marks)) 0 (initialWords (gameOf s) (delayOf s))) h)
       ∙ rw n (getD-tabulate (flagBy (goodWith (gameOf s) (delayOf s) marks)) (initialWords (gameOf s) (delayOf s)) v 0 h)
 

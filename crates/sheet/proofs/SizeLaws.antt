@@ -109,7 +109,10 @@ module _ (a d : ℕ) (few : a ≤ mostActions) (short : d ≤ mostDelay) where
   unfolding nodesOf
   nodes-few p n h e = rw (nodes-small p n e) (mul-le-mul h (power-bound a (d / 2) few (omega arith)))
 
+  pub few-first-words : a ^ initialLength d ≤ mostWords
+  few-first-words = power-bound a (initialLength d) few (omega arith)
+
   pub words-small : (w : ℕ) → w ≡ powerTo a (initialLength d) → w ≡ a ^ initialLength d
-  words-small w e = e ∙ small-power a (initialLength d) (power-bound a (initialLength d) few (omega arith))
+  words-small w e = e ∙ small-power a (initialLength d) few-first-words
 
 pub ruleset small-sizes = (needs, nodes-small, nodes-few, words-small)

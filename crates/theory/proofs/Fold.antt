@@ -91,6 +91,21 @@ pub not-not : (b : Bool) → not (not b) ≡ b
 not-not true = refl
 not-not false = refl
 
+-- a test that asks b only where a holds
+module _ (a b : Bool) where
+  pub implied : (a ≡ true → b ≡ true) → either (not a) b ≡ true
+  implied f = ⊎-elim (λ (t : a ≡ true). either-right _ _ (f t)) (λ (n : a ≡ false). either-left _ _ (rw n)) (bool a)
+
+  pub implies : either (not a) b ≡ true → a ≡ true → b ≡ true
+  implies e t = ⊎-elim (λ n. absurd (not-both t (not-true a n))) (λ h. h) (either-cases _ _ e)
+
+  pub implies-not : either (not a) b ≡ false → (a ≡ true) × (b ≡ false)
+  implies-not e =
+      ⊎-elim
+      (λ (t : a ≡ true). (t, ⊎-elim (λ h. absurd (not-both (implied (λ t. h)) e)) (λ n. n) (bool b)))
+      (λ (n : a ≡ false). absurd (not-both (implied (λ t. absurd (not-both t n))) e))
+      (bool a)
+
 -- what a test's result r says of b, as a branch on `!r` finds it
 pub failed : {r b : Bool} → r ≡ b → not r ≡ true → b ≡ false
 failed {r} e f = sym e ∙ not-true r f

@@ -1,45 +1,34 @@
--- Judging (specs/Judging.antt): a table is sound exactly if it is judged, a no names the first word or node that offends, and any choice
--- out of a sound table wins. Assumes nothing.
+-- Judging (specs/Judging.antt): a table is sound exactly if it is judged, and a no names the first word or node that offends. Assumes
+-- nothing.
 use Prim.Native.Nat.{ℕ, _<_}
-use mathlib.Core.Path.{_≡_, refl}
+use mathlib.Core.Path.{_≡_, refl, ap}
 use mathlib.Core.Bool.{Bool, true, false, not, cond}
 use mathlib.Core.Logic.{_⊎_, inl, inr, ⊎-elim}
 use native.Mathlib.Omega.{arith}
-use borrow.Author.Tests.{not-true}
+use borrow.Author.Tests.{not-true, not-false}
 use Rattle.theory.specs.Fold.{allBelow, firstNot}
 use Rattle.theory.specs.Game.{Game}
 use Rattle.theory.specs.Rounds.{Arena, spoiltBy}
 use Rattle.theory.specs.Delay.{initialWords, arena, goodFrom}
 use Rattle.theory.specs.Table.{Table, flagged, lacks, has, allows, Judged}
 use Rattle.theory.specs.Judging.{wordOk, actionOk, nodeOk, sound, badWord, badNode, ruling}
-use Rattle.theory.proofs.Fold.{bool, not-both, both-true, both-left, both-right, either-left, either-right, either-cases, all-at, all-below, First, first}
+use Rattle.theory.proofs.Fold.{bool, not-both, both-true, both-left, both-right, either-left, either-right, either-cases, implied, implies, implies-not, all-at, all-below, First, first}
 use Rattle.theory.proofs.Tables.{has-lacks, lacks-has, allows-has}
 
--- what passes
+-- what passes, and what does not
 
 module _ (G : Game) (d : ℕ) (T : Table) (v : ℕ) where
   pub word-good : wordOk G d T v ≡ true → flagged T v ≡ true → goodFrom G d (has T) v ≡ true
   unfolding wordOk
-  word-good e f =
-      ⊎-elim (λ (n : not (flagged T v) ≡ true). absurd (not-both f (not-true _ n))) (λ g. g) (either-cases _ _ e)
+  word-good e f = implies _ _ e f
 
   good-word : (flagged T v ≡ true → goodFrom G d (has T) v ≡ true) → wordOk G d T v ≡ true
   unfolding wordOk
-  good-word g =
-      ⊎-elim
-      (λ (f : flagged T v ≡ true). either-right _ _ (g f))
-      (λ (f : flagged T v ≡ false). either-left _ _ (rw f))
-      (bool (flagged T v))
+  good-word g = implied _ _ g
 
   pub word-offending : wordOk G d T v ≡ false → (flagged T v ≡ true) × (goodFrom G d (has T) v ≡ false)
-  word-offending e =
-      ⊎-elim
-      (λ (f : flagged T v ≡ true). (
-        f,
-        ⊎-elim (λ g. absurd (not-both (good-word (λ f. g)) e)) (λ g. g) (bool (goodFrom G d (has T) v)),
-      ))
-      (λ (f : flagged T v ≡ false). absurd (not-both (good-word (λ t. absurd (not-both t f))) e))
-      (bool (flagged T v))
+  unfolding wordOk
+  word-offending e = implies-not _ _ e
 
 -- a node with a mask that passes
 pub record Stands (E : Arena) (T : Table) (k : ℕ) : Type 0 where
@@ -50,26 +39,15 @@ pub record Stands (E : Arena) (T : Table) (k : ℕ) : Type 0 where
 module _ (E : Arena) (T : Table) (k : ℕ) where
   action-unspoilt : (c : ℕ) → actionOk E T k c ≡ true → allows T k c ≡ true → spoiltBy E (lacks T) k c ≡ false
   unfolding actionOk
-  action-unspoilt c e a =
-      ⊎-elim (λ (n : not (allows T k c) ≡ true). absurd (not-both a (not-true _ n))) (λ n. not-true _ n) (either-cases _ _ e)
+  action-unspoilt c e a = not-true _ (implies _ _ e a)
 
   unspoilt-action : (c : ℕ) → (allows T k c ≡ true → spoiltBy E (lacks T) k c ≡ false) → actionOk E T k c ≡ true
   unfolding actionOk
-  unspoilt-action c u =
-      ⊎-elim
-      (λ (a : allows T k c ≡ true). either-right _ _ (rw (u a)))
-      (λ (a : allows T k c ≡ false). either-left _ _ (rw a))
-      (bool (allows T k c))
+  unspoilt-action c u = implied _ _ (λ a. ap not (u a))
 
   action-offending : (c : ℕ) → actionOk E T k c ≡ false → (allows T k c ≡ true) × (spoiltBy E (lacks T) k c ≡ true)
-  action-offending c e =
-      ⊎-elim
-      (λ (a : allows T k c ≡ true). (
-        a,
-        ⊎-elim (λ s. s) (λ s. absurd (not-both (unspoilt-action c (λ a. s)) e)) (bool (spoiltBy E (lacks T) k c)),
-      ))
-      (λ (a : allows T k c ≡ false). absurd (not-both (unspoilt-action c (λ t. absurd (not-both t a))) e))
-      (bool (allows T k c))
+  unfolding actionOk
+  action-offending c e = let o = implies-not _ _ e in (o .0, not-false _ (o .1))
 
   pub node-stands : nodeOk E T k ≡ true → has T k ≡ true → Stands E T k
   unfolding nodeOk

@@ -9,7 +9,6 @@ use lib.ListN.{length, getD}
 use borrow.Author.Tests.{eq-eqb, le-leb, lt-ltb}
 use Rattle.theory.specs.Answer.{accepted, check, onAccepted}
 use Rattle.theory.specs.Game.{Game, Legal}
-use Rattle.theory.specs.Strategy.{initialLength}
 use Rattle.theory.specs.Delay.{initialWords, words, arena}
 use Rattle.theory.specs.Table.{Table, Fits}
 use Rattle.theory.proofs.Fold.{both-true, all-below}
@@ -18,7 +17,7 @@ use Rattle.theory.proofs.Tables.{legal-actions}
 use Rattle.sheet.specs.Limits.{width, mostPositions, mostActions, mostDelay, mostNodes, mostWords}
 use Rattle.sheet.specs.Form.{entrySize, contentsOk, bodyOf, Part, part}
 use Rattle.sheet.specs.Checks.{nodesOf}
-use Rattle.sheet.proofs.SizeLaws.{power-bound}
+use Rattle.sheet.proofs.SizeLaws.{few-first-words}
 use Rattle.table.specs.TableSheet.{tableLetters, tableLayout, decode, tableNodes, numbersOk, belowAt, bytesBelow, bodiesOk, shapeAnswer, someFlagged, tableAnswer}
 use Rattle.writer.specs.SheetBytes.{headerOf, tableBytes, tableSheet, tableSaid}
 use Rattle.writer.proofs.Sheets.{before, length-sheet, body-is, contents-ok}
@@ -33,7 +32,7 @@ pub record Ranged (G : Game) (d : ℕ) : Type 0 where
 
 pub few-words : (G : Game) (d : ℕ) → Ranged G d → initialWords G d ≤ mostWords
 unfolding initialWords
-few-words G d ranged = power-bound (G .actions) (initialLength d) (ranged .few-actions) (omega (arith, ranged .short-delay))
+few-words G d ranged = few-first-words (G .actions) d (ranged .few-actions) (ranged .short-delay)
 
 module _ (G : Game) (d : ℕ) (T : Table) (fits : Fits G d T) where
   abbrev parts : List Part
