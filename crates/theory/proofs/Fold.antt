@@ -2,16 +2,17 @@
 use Prim.Native.Nat.{ℕ, zero, suc, _+_, _-_, _≤_, _<_}
 use mathlib.Core.Path.{_≡_, refl, sym, _∙_, ap, fun-ext}
 use mathlib.Core.Bool.{Bool, true, false, not, cond, true≢false, false≢true}
-use mathlib.Core.Logic.{_⊎_, inl, inr, ⊎-elim}
+use mathlib.Core.Logic.{_⊎_, inl, inr, ⊎-elim, _↔_}
 use mathlib.Core.List.{List, [], _∷_, map, List·Memᴰ, List·Memᴰ·head, List·Memᴰ·tail, List·Memᴰ·cases-cons, List·Memᴰ·not-nil}
+use mathlib.Core.Option.{Option, none, some, Option·some-injective, Option·none-ne-some, Option·some-ne-none}
 use native.Mathlib.Omega.{arith}
 use native.Mathlib.Nat.{eq-or-lt-of-le, le-of-suc-le-suc, le-refl}
 use native.Mathlib.Numerals.{add-one}
-use lib.Dec.{eqb, ltb}
+use lib.Dec.{eqb, leb, ltb}
 use lib.ListN.{length, getD, set, take, drop, length-set, length-drop, List·getD-eq-default}
 use lib.Seq.{getD-set-same, getD-set-other, ext-getD, take-all}
-use borrow.Author.Tests.{eqb-true, eqb-false, ltb-true, ltb-false, not-true, not-false}
-use Rattle.theory.specs.Fold.{both, either, allBelow, anyBelow, firstNot, count, anyOf, tabulate}
+use borrow.Author.Tests.{eqb-true, eqb-false, leb-true, leb-false, le-leb, lt-leb, ltb-true, ltb-false, not-true, not-false}
+use Rattle.theory.specs.Fold.{both, either, allBelow, anyBelow, firstNot, lastFrom, found, count, anyOf, tabulate}
 
 -- a test passes or fails
 pub bool : (b : Bool) → (b ≡ true) ⊎ (b ≡ false)
@@ -252,6 +253,101 @@ pub first-same : (p q : ℕ → Bool) (n : ℕ) → ((i : ℕ) → i < n → p i
 first-same p q zero f = rw (first-suc p 0, first-suc q 0, all-none p, all-none q)
 first-same p q (suc n) f =
     rw (first-suc p (suc n), first-suc q (suc n), all-same p q (suc n) f, first-same p q n (λ i h. f i (omega arith)))
+
+-- the greatest index that passes
+
+module _ (p : ℕ → Bool) (i : ℕ) where
+  last-zero : lastFrom p i 0 ≡ none
+  unfolding lastFrom
+  last-zero = refl
+
+  last-top : {n : ℕ} → i ≤ n → p n ≡ true → lastFrom p i (suc n) ≡ some n
+  unfolding lastFrom
+  last-top {n} h t = rw (both-true (leb i n) (p n) (le-leb i n h) t)
+
+  last-below : {n : ℕ} → (i ≤ n → p n ≡ false) → lastFrom p i (suc n) ≡ lastFrom p i n
+  unfolding lastFrom
+  last-below {n} f =
+      ⊎-elim
+      (λ (l : leb i n ≡ true). rw (both-false (leb i n) (p n) (f (leb-true i n l))))
+      (λ (g : leb i n ≡ false). rw (both-none (leb i n) (p n) g))
+      (bool (leb i n))
+
+  top? : (n : ℕ) → ((i ≤ n) × (p n ≡ true)) ⊎ (i ≤ n → p n ≡ false)
+  top? n =
+      ⊎-elim
+      (λ (t : p n ≡ true). ⊎-elim (λ (l : n < i). inr (λ h. absurd (omega arith))) (λ (h : i ≤ n). inl (h, t)) (below? n i))
+      (λ (f : p n ≡ false). inr (λ h. f))
+      (bool (p n))
+
+  abbrev Last : ℕ → ℕ → Type 0
+  Last n k = (i ≤ k) × (k < n) × (p k ≡ true) × ((j : ℕ) → k < j → j < n → p j ≡ false)
+
+  last-is : (n k : ℕ) → lastFrom p i n ≡ some k → Last n k
+  last-is zero k e = absurd (Option·none-ne-some k (sym last-zero ∙ e))
+  last-is (suc n) k e =
+      ⊎-elim
+      (λ (t : (i ≤ n) × (p n ≡ true)).
+      let q : n ≡ k = Option·some-injective n k (sym (last-top (t .0) (t .1)) ∙ e) in
+      rw (← q) (t .0, omega arith, t .1, λ j a b. absurd (omega arith)))
+      (λ (f : i ≤ n → p n ≡ false).
+      let r = last-is n k (sym (last-below f) ∙ e) in
+      let h = r .0 in
+      let b = r .1 in (
+        h,
+        omega arith,
+        r .2,
+        λ j a l. ⊎-elim (λ (m : j < n). r .3 j a m) (λ (m : j ≡ n). rw m (f (omega arith))) (below-cases l),
+      ))
+      (top? n)
+
+  is-last : (n k : ℕ) → Last n k → lastFrom p i n ≡ some k
+  is-last zero k r = let b = r .1 in absurd (omega arith)
+  is-last (suc n) k r =
+      ⊎-elim
+      (λ (l : k < n). last-below (λ h. r .3 n l (omega arith)) ∙ is-last n k (r .0, l, r .2, λ j a b. r .3 j a (omega arith)))
+      (λ (e : k ≡ n). ap (λ (m : ℕ). lastFrom p i (suc m)) (sym e) ∙ last-top (r .0) (r .2))
+      (below-cases (r .1))
+
+  -- W-203, for every condition: a search for the last one stops at k exactly if the condition holds at k and at no later one
+  pub last-iff : (n k : ℕ)
+      → (lastFrom p i n ≡ some k) ↔ ((i ≤ k) × (k < n) × (p k ≡ true) × ((j : ℕ) → k < j → j < n → p j ≡ false))
+  last-iff n k = (last-is n k, is-last n k)
+
+  last-none : (n : ℕ) → lastFrom p i n ≡ none → (j : ℕ) → i ≤ j → j < n → p j ≡ false
+  last-none zero e j a b = absurd (omega arith)
+  last-none (suc n) e j a b =
+      ⊎-elim
+      (λ (t : (i ≤ n) × (p n ≡ true)). absurd (Option·some-ne-none n (sym (last-top (t .0) (t .1)) ∙ e)))
+      (λ (f : i ≤ n → p n ≡ false).
+      ⊎-elim
+      (λ (m : j < n). last-none n (sym (last-below f) ∙ e) j a m)
+      (λ (m : j ≡ n). rw m (f (omega arith)))
+      (below-cases b))
+      (top? n)
+
+  none-last : (n : ℕ) → ((j : ℕ) → i ≤ j → j < n → p j ≡ false) → lastFrom p i n ≡ none
+  none-last zero f = last-zero
+  none-last (suc n) f = last-below (λ h. f n h (omega arith)) ∙ none-last n (λ j a b. f j a (omega arith))
+
+  -- and finds none exactly if it holds at none
+  pub last-none-iff : (n : ℕ) → (lastFrom p i n ≡ none) ↔ ((j : ℕ) → i ≤ j → j < n → p j ≡ false)
+  last-none-iff n = (last-none n, none-last n)
+
+  -- a search from the end down that has come to n: what its next turn finds, r being the test's result, and its end
+
+  pub last-here : {n : ℕ} {r : Bool} → i < n → r ≡ p (n - 1) → r ≡ true → lastFrom p i n ≡ some (n - 1)
+  last-here {n} h e t =
+      let q : n ≡ suc (n - 1) = omega arith in
+      ap (lastFrom p i) q ∙ last-top (omega arith) (sym e ∙ t)
+
+  pub last-passed : {n : ℕ} {r : Bool} → i < n → r ≡ p (n - 1) → r ≡ false → lastFrom p i n ≡ lastFrom p i (n - 1)
+  last-passed {n} h e f =
+      let q : n ≡ suc (n - 1) = omega arith in
+      ap (lastFrom p i) q ∙ last-below (λ l. sym e ∙ f)
+
+  pub last-over : {n : ℕ} → n ≤ i → lastFrom p i n ≡ none
+  last-over {n} h = none-last n (λ j a b. absurd (omega arith))
 
 -- some index below n
 
@@ -497,3 +593,34 @@ any-tabulate p f i (suc n) =
 
     s : (k : ℕ) → i + suc k ≡ suc i + k
     s k = omega arith
+
+-- a search finds something exactly if an entry of the tabulated list passes
+
+found-below : (p : ℕ → Bool) (i m : ℕ) → found (lastFrom p i (i + m)) ≡ anyBelow (λ k. p (i + k)) m
+unfolding found
+found-below p i zero = let q : i + 0 ≤ i = omega arith in ap found (last-over p i q) ∙ sym (any-none (λ k. p (i + k)))
+found-below p i (suc m) =
+    let q : i + suc m ≡ suc (i + m) = omega arith in
+    ap (λ n. found (lastFrom p i n)) q
+    ∙ ⊎-elim
+    (λ (t : p (i + m) ≡ true). ap found (last-top p i (omega arith) t) ∙ sym (any-suc (λ k. p (i + k)) m ∙ either-right _ _ t))
+    (λ (f : p (i + m) ≡ false).
+    ap found (last-below p i (λ h. f))
+    ∙ found-below p i m
+    ∙ sym (any-suc (λ k. p (i + k)) m ∙ either-first _ _ f))
+    (bool (p (i + m)))
+
+pub found-any : {A : Type 0} (p : A → Bool) (f : ℕ → A) (i n : ℕ)
+    → found (lastFrom (λ k. p (f k)) i n) ≡ anyOf p (tabulate f i (n - i))
+unfolding found
+found-any p f i n =
+    ⊎-elim
+    (λ (l : i < n).
+    let q : n ≡ i + (n - i) = omega arith in
+    ap (λ m. found (lastFrom (λ k. p (f k)) i m)) q
+    ∙ found-below (λ k. p (f k)) i (n - i)
+    ∙ sym (any-tabulate p f i (n - i)))
+    (λ (g : n ≤ i).
+    ap found (last-over (λ k. p (f k)) i g)
+    ∙ sym (ap (anyOf p) (tabulate-none f i n g) ∙ any-of-nil p))
+    (below? i n)

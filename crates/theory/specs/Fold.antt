@@ -3,6 +3,8 @@
 use Prim.Native.Nat.{ℕ, zero, suc, _+_}
 use mathlib.Core.Bool.{Bool, true, false, cond}
 use mathlib.Core.List.{List, [], _∷_}
+use mathlib.Core.Option.{Option, none, some}
+use lib.Dec.{leb}
 
 -- conjunction and disjunction of tests; shut, unlike the library's, so that their arguments can be inferred
 unfoldable pub both : Bool → Bool → Bool
@@ -27,6 +29,16 @@ anyBelow p (suc n) = either (anyBelow p n) (p n)
 unfoldable pub firstNot : (ℕ → Bool) → ℕ → ℕ
 firstNot p zero = 0
 firstNot p (suc n) = cond (allBelow p n) n (firstNot p n)
+
+-- the greatest index from i up to n, n left out, of which p holds, if there is one
+unfoldable pub lastFrom : (ℕ → Bool) → ℕ → ℕ → Option ℕ
+lastFrom p i zero = none
+lastFrom p i (suc n) = cond (both (leb i n) (p n)) (some n) (lastFrom p i n)
+
+-- a search has found something
+unfoldable pub found : Option ℕ → Bool
+found none = false
+found (some i) = true
 
 -- how many indices below n pass a test
 unfoldable pub count : (ℕ → Bool) → ℕ → ℕ

@@ -1,10 +1,11 @@
 -- What the walk over a node's actions and moves finds, and that it is theory's `spoiltBy` (specs/code/Walks.antt).
 -- Assumes nothing.
-use Prim.Native.Nat.{ℕ, suc, _+_, _*_, _/_, _%_, _≤_, _<_}
+use Prim.Native.Nat.{ℕ, suc, _+_, _-_, _*_, _/_, _%_, _≤_, _<_}
 use mathlib.Core.Path.{_≡_, refl, sym, _∙_, ap}
 use mathlib.Core.Bool.{Bool, true, false, not}
 use mathlib.Core.Logic.{⊎-elim}
 use mathlib.Core.List.{List, map}
+use mathlib.Core.Option.{Option, none, some}
 use native.Mathlib.Omega.{arith}
 use native.Mathlib.Nat.{mod-lt, div-lt-iff-lt-mul}
 use native.Mathlib.Numerals.{add-one}
@@ -12,19 +13,21 @@ use lib.Dec.{leb}
 use lib.ListN.{length, getD, List·getD-eq-default}
 use borrow.Author.Tests.{lt-ltb, le-ltb, not-true, not-false}
 use borrow.Author.Needs.{needs}
-use Rattle.theory.specs.Fold.{either, allBelow, anyOf}
+use Rattle.theory.specs.Fold.{either, allBelow, anyOf, lastFrom, found}
 use Rattle.theory.specs.Game.{Target, absent, to, Game}
 use Rattle.theory.specs.Rounds.{bad, spoiltBy}
 use Rattle.theory.specs.Delay.{withWord, movedTo, playedTo, outcomes, step}
-use Rattle.theory.proofs.Fold.{bool, all-none, all-suc, all-done, below?, not-both, all-again, either-left, any-of-nil, any-of-cons}
-use Rattle.theory.proofs.Fold.{both-none, both-second, either-second, all-short, any-of-map, tabulate-none}
-use Rattle.theory.proofs.Fold.{tabulate-next}
+use Rattle.theory.proofs.Fold.{bool, all-none, all-suc, all-done, below?, not-both, all-again, either-left, both-none, both-second}
+use Rattle.theory.proofs.Fold.{either-second, all-short, any-of-map, last-here, last-passed, last-over, found-any}
 use Rattle.sheet.specs.Kinds.{kindAt, isSafe, safeAt}
 use Rattle.sheet.specs.code.Arrays.{unmark, targetAt, toAt, tosBetween, viewOf, absentMark}
 use Rattle.walk.specs.declared.level.Level.{Level}
 use Rattle.walk.specs.declared.walk.Choice.{Choice}
+use Rattle.walk.specs.declared.walk.Found.{Found}
+use Rattle.walk.specs.declared.walk.Found.the-variants.{At, Nowhere}
 use Rattle.walk.specs.code.Levels.{arenaOf}
 use Rattle.walk.specs.code.Walks.{fallenBy, blockedAt, movingFrom, movesAfter, playedAt, choiceAt, outcomeBy, outcomeAt, Chosen}
+use Rattle.walk.specs.code.Walks.{spoilsOn, foundMeans}
 use Rattle.sheet.specs.Limits.{mostPositions}
 use Rattle.sheet.specs.code.Steps.{mostPower}
 use Rattle.sheet.proofs.GridLaws.{unmark-absent, unmark-to}
@@ -141,34 +144,32 @@ module _ (p : List ℕ) (g : List (List ℕ)) (u : List ℕ) (l : Level) (fallen
 
 pub ruleset spoiling = (needs, spoils-even, spoils-unsafe, spoils-absent, spoils-odd)
 
--- the walk: what is left of a choice's lines, from one on
+-- the search for the last line that spoils a choice
 
-unfoldable pub spoiltFrom : List ℕ → List (List ℕ) → List ℕ → Level → (ℕ → Bool) → Choice → ℕ → Bool
-spoiltFrom p g u l fallen x line = anyOf (λ r. bad fallen (outcomeAt p g l x r)) (tosBetween u line (x .end))
+module _ (p : List ℕ) (g : List (List ℕ)) (u : List ℕ) (l : Level) (fallen : ℕ → Bool) (x : Choice) where
+  abbrev lastBelow : ℕ → Option ℕ
+  lastBelow = lastFrom (spoilsOn p g u l fallen x) (x .first)
 
-module _ (p : List ℕ) (g : List (List ℕ)) (u : List ℕ) (l : Level) (fallen : ℕ → Bool) (x : Choice) (line : ℕ) where
-  pub from-end : x .end ≤ line → spoiltFrom p g u l fallen x line ≡ false
-  unfolding spoiltFrom tosBetween
-  from-end h = rw (tabulate-none (toAt u) line (x .end) h) (any-of-nil _)
+  pub line-found : (line : ℕ) {r : Bool} → lastBelow line ≡ lastBelow (x .end) → x .first < line
+      → r ≡ bad fallen (outcomeAt p g l x (toAt u (line - 1))) → r ≡ true → some (line - 1) ≡ lastBelow (x .end)
+  unfolding spoilsOn
+  line-found line e h b t = sym (last-here (spoilsOn p g u l fallen x) (x .first) h b t) ∙ e
 
-  from-next : line < x .end
-      → spoiltFrom p g u l fallen x line
-      ≡ either (bad fallen (outcomeAt p g l x (toAt u line))) (spoiltFrom p g u l fallen x (line + 1))
-  unfolding spoiltFrom tosBetween
-  from-next h = rw (tabulate-next (toAt u) line (x .end) h) (any-of-cons _ _ _)
+  pub line-passed : (line : ℕ) {r : Bool} → lastBelow line ≡ lastBelow (x .end) → x .first < line
+      → r ≡ bad fallen (outcomeAt p g l x (toAt u (line - 1))) → r ≡ false → lastBelow (line - 1) ≡ lastBelow (x .end)
+  unfolding spoilsOn
+  line-passed line e h b t = sym (last-passed (spoilsOn p g u l fallen x) (x .first) h b t) ∙ e
 
-  pub from-spoilt : {r : Bool} → line < x .end → r ≡ bad fallen (outcomeAt p g l x (toAt u line)) → r ≡ true
-      → spoiltFrom p g u l fallen x line ≡ true
-  from-spoilt h e t = from-next h ∙ either-left _ _ (sym e ∙ t)
+  pub lines-over : (line : ℕ) → lastBelow line ≡ lastBelow (x .end) → line ≤ x .first → none ≡ lastBelow (x .end)
+  lines-over line e h = sym (last-over (spoilsOn p g u l fallen x) (x .first) h) ∙ e
 
-  pub from-passed : {r : Bool} → line < x .end → r ≡ bad fallen (outcomeAt p g l x (toAt u line)) → r ≡ false
-      → spoiltFrom p g u l fallen x line ≡ spoiltFrom p g u l fallen x (line + 1)
-  from-passed h e t = from-next h ∙ either-second _ _ (sym e ∙ t)
+pub ruleset searching = (needs, line-found, line-passed, lines-over)
 
 -- a choice is spoilt if it is blocked or one of its lines spoils it
 
 unfoldable pub spoiltWith : List ℕ → List (List ℕ) → List ℕ → Level → (ℕ → Bool) → Choice → Bool
-spoiltWith p g u l fallen x = either (x .blocked) (spoiltFrom p g u l fallen x (x .first))
+spoiltWith p g u l fallen x =
+    either (x .blocked) (anyOf (λ r. bad fallen (outcomeAt p g l x r)) (tosBetween u (x .first) (x .end)))
 
 module _ (p : List ℕ) (g : List (List ℕ)) (u f : List ℕ) (l : Level) (fallen : ℕ → Bool) where
   abbrev view : Game
@@ -176,12 +177,12 @@ module _ (p : List ℕ) (g : List (List ℕ)) (u f : List ℕ) (l : Level) (fall
 
   odd-spoilt : (q h w : ℕ) → l .odd ≡ true
       → anyOf (bad fallen) (map (movedTo view (l .words) h w) (view .moves q)) ≡ spoiltWith p g u l fallen (movingFrom f h w q)
-  unfolding spoiltWith spoiltFrom outcomeAt outcomeBy viewOf movedTo either
+  unfolding spoiltWith outcomeAt outcomeBy viewOf movedTo either
   odd-spoilt q h w o = rw o (any-of-map (bad fallen) _ _)
 
   even-spoilt : (h w : ℕ) (t : Target) → l .odd ≡ false
       → anyOf (bad fallen) (playedTo view (l .words) w t) ≡ spoiltWith p g u l fallen (movesAfter p f h w t)
-  unfolding spoiltWith spoiltFrom outcomeAt outcomeBy viewOf playedTo movesAfter either bad anyOf
+  unfolding spoiltWith outcomeAt outcomeBy viewOf playedTo movesAfter either bad anyOf
   even-spoilt h w absent o = refl
   even-spoilt h w (to r) o =
       ⊎-elim
@@ -209,6 +210,9 @@ module _ (p : List ℕ) (g : List (List ℕ)) (u f : List ℕ) (l : Level) (fall
   abbrev S : ℕ → Bool
   S = spoiltBy (arenaOf p g u f l) fallen k
 
+  abbrev lastOf : Choice → Option ℕ
+  lastOf x = lastFrom (spoilsOn p g u l fallen x) (x .first) (x .end)
+
   -- one action
 
   pub spoilt-blocked : (c : ℕ) {x : Choice} → Chosen p g f l (k / l .words) (k % l .words) c x → x .blocked ≡ true → true ≡ S c
@@ -216,9 +220,22 @@ module _ (p : List ℕ) (g : List (List ℕ)) (u f : List ℕ) (l : Level) (fall
   spoilt-blocked c h b = sym (chosen p g u f l fallen k c h ∙ either-left _ _ b)
 
   pub spoilt-open : (c : ℕ) {x : Choice} → Chosen p g f l (k / l .words) (k % l .words) c x → x .blocked ≡ false
-      → S c ≡ spoiltFrom p g u l fallen x (x .first)
-  unfolding spoiltWith
-  spoilt-open c h b = chosen p g u f l fallen k c h ∙ either-second _ _ b
+      → S c ≡ found (lastOf x)
+  unfolding spoiltWith spoilsOn tosBetween
+  spoilt-open c {x} h b =
+      chosen p g u f l fallen k c h
+      ∙ either-second _ _ b
+      ∙ sym (found-any (λ r. bad fallen (outcomeAt p g l x r)) (toAt u) (x .first) (x .end))
+
+  pub spoilt-found : (c : ℕ) {x : Choice} {r : Found} {line : ℕ} → Chosen p g f l (k / l .words) (k % l .words) c x
+      → x .blocked ≡ false → foundMeans r ≡ lastOf x → r ≡ At line → true ≡ S c
+  unfolding found
+  spoilt-found c h b e t = sym (spoilt-open c h b ∙ ap found (sym e ∙ ap foundMeans t))
+
+  pub spoilt-nowhere : (c : ℕ) {x : Choice} {r : Found} → Chosen p g f l (k / l .words) (k % l .words) c x
+      → x .blocked ≡ false → foundMeans r ≡ lastOf x → r ≡ Nowhere → false ≡ S c
+  unfolding found
+  spoilt-nowhere c h b e t = sym (spoilt-open c h b ∙ ap found (sym e ∙ ap foundMeans t))
 
   -- all actions: a blocked one is passed
 
@@ -227,38 +244,24 @@ module _ (p : List ℕ) (g : List (List ℕ)) (u f : List ℕ) (l : Level) (fall
   walk-blocked c e h b = all-again S c e (spoilt-blocked c h b) refl
 
   pub walk-open : (c : ℕ) {x : Choice} → allBelow S c ≡ true → Chosen p g f l (k / l .words) (k % l .words) c x → x .blocked ≡ false
-      → allBelow S (c + 1) ≡ spoiltFrom p g u l fallen x (x .first)
+      → allBelow S (c + 1) ≡ found (lastOf x)
   walk-open c e h b = rw (add-one c, all-suc S c) (both-second _ _ e ∙ spoilt-open c h b)
 
-  -- the first spoiling line ends an action, a line that passes goes on, and an action without one ends the walk
+  -- a spoiling line ends an action, and an action without one ends the walk
 
-  pub walk-spoilt : (c line : ℕ) (x : Choice) {r : Bool} → allBelow S c ≡ spoiltFrom p g u l fallen x line → line < x .end
-      → r ≡ bad fallen (outcomeAt p g l x (toAt u line)) → r ≡ true → allBelow S c ≡ true
-  walk-spoilt c line x e h b t = e ∙ from-spoilt p g u l fallen x line h b t
+  pub walk-spoilt : (c line : ℕ) (x : Choice) {r : Bool} → allBelow S c ≡ found (lastOf x)
+      → lastBelow p g u l fallen x line ≡ lastOf x → x .first < line
+      → r ≡ bad fallen (outcomeAt p g l x (toAt u (line - 1))) → r ≡ true → allBelow S c ≡ true
+  unfolding found
+  walk-spoilt c line x e d h b t = e ∙ ap found (sym (line-found p g u l fallen x line d h b t))
 
-  pub walk-passed : (c line : ℕ) (x : Choice) {r : Bool} → allBelow S c ≡ spoiltFrom p g u l fallen x line → line < x .end
-      → r ≡ bad fallen (outcomeAt p g l x (toAt u line)) → r ≡ false → allBelow S c ≡ spoiltFrom p g u l fallen x (line + 1)
-  walk-passed c line x e h b t = e ∙ from-passed p g u l fallen x line h b t
-
-  pub walk-kept : (c n line : ℕ) (x : Choice) → allBelow S (c + 1) ≡ spoiltFrom p g u l fallen x line → x .end ≤ line → c < n
-      → false ≡ allBelow S n
-  walk-kept c n line x e h m = sym (all-short S (omega arith) (e ∙ from-end p g u l fallen x line h))
+  pub walk-kept : (c n line : ℕ) (x : Choice) → allBelow S (c + 1) ≡ found (lastOf x) → lastBelow p g u l fallen x line ≡ lastOf x
+      → line ≤ x .first → c < n → false ≡ allBelow S n
+  unfolding found
+  walk-kept c n line x e d h m = sym (all-short S (omega arith) (e ∙ ap found (sym (lines-over p g u l fallen x line d h))))
 
   pub walk-done : (c n : ℕ) → allBelow S c ≡ true → c ≤ n → n ≤ c → true ≡ allBelow S n
   walk-done c n e h m = sym (all-done S h m e)
-
-  -- the same for one action
-
-  pub line-spoilt : (c line : ℕ) (x : Choice) {r : Bool} → S c ≡ spoiltFrom p g u l fallen x line → line < x .end
-      → r ≡ bad fallen (outcomeAt p g l x (toAt u line)) → r ≡ true → true ≡ S c
-  line-spoilt c line x e h b t = sym (e ∙ from-spoilt p g u l fallen x line h b t)
-
-  pub line-passed : (c line : ℕ) (x : Choice) {r : Bool} → S c ≡ spoiltFrom p g u l fallen x line → line < x .end
-      → r ≡ bad fallen (outcomeAt p g l x (toAt u line)) → r ≡ false → S c ≡ spoiltFrom p g u l fallen x (line + 1)
-  line-passed c line x e h b t = e ∙ from-passed p g u l fallen x line h b t
-
-  pub line-kept : (c line : ℕ) (x : Choice) → S c ≡ spoiltFrom p g u l fallen x line → x .end ≤ line → false ≡ S c
-  line-kept c line x e h = sym (e ∙ from-end p g u l fallen x line h)
 
 -- a node's position
 pub node-small : {k m n p : ℕ} → k < n → n ≡ p * m → p ≤ mostPositions → 0 < m → k / m < mostPositions
@@ -268,6 +271,7 @@ node-small {k} {m} {n} {p} h e s z =
 pub word-small : (k : ℕ) {m : ℕ} → 0 < m → k % m < m
 word-small k z = mod-lt k z
 
-pub ruleset walking = (needs, node-small, word-small, spoilt-blocked, spoilt-open, line-spoilt, line-passed, line-kept)
+pub ruleset walking = (needs, node-small, word-small, spoilt-blocked, spoilt-found, spoilt-nowhere)
 
-pub ruleset walks = (needs, node-small, word-small, all-none, walk-blocked, walk-open, walk-spoilt, walk-passed, walk-kept, walk-done)
+pub ruleset walks =
+    (needs, node-small, word-small, all-none, line-passed, walk-blocked, walk-open, walk-spoilt, walk-kept, walk-done)

@@ -14,12 +14,14 @@ use sheet::limits::ROWS;
 ghost use mathlib.Core.Path.{_≡_};
 ghost use Prim.Native.Nat.{_≤_, _<_};
 ghost use lib.ListN.{length, getD};
+ghost use Rattle.theory.specs.Fold.{lastFrom};
 ghost use Rattle.theory.specs.Rounds.{bad};
 ghost use Rattle.sheet.specs.Limits.{mostPositions};
 ghost use Rattle.sheet.specs.code.Steps.{mostPower};
 ghost use Rattle.sheet.specs.code.Arrays.{toAt, indexEntries};
 ghost use Rattle.walk.specs.code.Nodes.{Sized};
 ghost use Rattle.walk.specs.code.Walks.{fallenBy, blockedAt, movingFrom, outcomeAt, Chosen};
+ghost use Rattle.walk.specs.code.Walks.{spoilsOn, foundMeans};
 ghost use Rattle.walk.specs.code.Walks.{spoiltIn, allSpoiltIn, spoiltAnswer, allSpoiltAnswer};
 
 // What choosing an action at a node leads to: the oldest action is played and rest is pending after it; the environment's moves
@@ -30,6 +32,12 @@ pub struct Choice {
     pub rest: usize,
     pub first: usize,
     pub end: usize,
+}
+
+// Where a search among lines stops: at a line, or with none found.
+enum Found {
+    At(usize),
+    Nowhere,
 }
 
 fn line_of(firsts: &[u16; INDEX], q: usize) -> usize
@@ -139,6 +147,33 @@ fn spoils(
     fallen(marks, n, wide16(mark) * level.words + x.rest)
 }
 
+// The last of a choice's lines that spoils it, looked for from the end: it is "nearly always a late line of its position's yard
+// moves" (W-203).
+fn last_spoiling(
+    p: &[u8],
+    grid: &[[u16; ROW]; ROWS],
+    u: &[u8],
+    level: Level,
+    marks: &[u16],
+    n: u16,
+    x: Choice,
+) -> Found
+    requires { ⌜ (level .words ≤ mostPower) × (x .rest < level .words) × (x .end < mostPower) ⌝ }
+    ensures { λ r.
+        ⌜ foundMeans r
+        ≡ lastFrom (spoilsOn (now (p .entry)) (now (grid .entry)) (now (u .entry)) level (fallenBy n (now (marks .entry))) x)
+        (x .first) (x .end) ⌝ }
+{
+    let mut line = x.end;
+    while x.first < line {
+        line -= 1;
+        if spoils(p, grid, u, level, marks, n, x, line) {
+            return Found::At(line);
+        }
+    }
+    Found::Nowhere
+}
+
 // Is action c spoilt at node k, which exists?
 fn spoilt_at(
     p: &[u8],
@@ -159,16 +194,14 @@ fn spoilt_at(
     if x.blocked {
         return true;
     }
-    for line in x.first..x.end {
-        if spoils(p, grid, u, level, marks, n, x, line) {
-            return true;
-        }
+    match last_spoiling(p, grid, u, level, marks, n, x) {
+        Found::At(_) => true,
+        Found::Nowhere => false,
     }
-    false
 }
 
-// Is every action spoilt at node k, which exists? The inner loop leaves for the next action at the first spoiling line; an action
-// whose lines all pass ends the walk.
+// Is every action spoilt at node k, which exists? The inner loop goes through an action's lines from the last to the first and
+// leaves for the next action at the first spoiling one that it meets; an action whose lines all pass ends the walk.
 fn all_spoilt_at(
     p: &[u8],
     grid: &[[u16; ROW]; ROWS],
@@ -195,15 +228,15 @@ fn all_spoilt_at(
         if x.blocked {
             continue 'actions;
         }
-        let mut line = x.first;
+        let mut line = x.end;
         'moves: loop {
-            if x.end <= line {
+            if line <= x.first {
                 break 'actions false;
             }
+            line -= 1;
             if spoils(p, grid, u, level, marks, n, x, line) {
                 break 'moves;
             }
-            line += 1;
         }
     };
     all

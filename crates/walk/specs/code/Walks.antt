@@ -3,6 +3,7 @@ use Prim.Native.Nat.{ℕ, suc, _+_, _*_, _/_, _%_, _<_}
 use mathlib.Core.Path.{_≡_}
 use mathlib.Core.Bool.{Bool, true, false, cond}
 use mathlib.Core.List.{List}
+use mathlib.Core.Option.{Option, none, some}
 use lib.Dec.{ltb, leb}
 use lib.ListN.{getD, length}
 use Rattle.theory.specs.Fold.{both, allBelow}
@@ -11,8 +12,10 @@ use Rattle.theory.specs.Delay.{withWord}
 use Rattle.sheet.specs.Kinds.{safeAt}
 use Rattle.walk.specs.declared.level.Level.{Level}
 use Rattle.walk.specs.declared.walk.Choice.{Choice}
-use Rattle.sheet.specs.code.Arrays.{targetAt}
-use Rattle.theory.specs.Rounds.{spoiltBy}
+use Rattle.walk.specs.declared.walk.Found.{Found}
+use Rattle.walk.specs.declared.walk.Found.the-variants.{At, Nowhere}
+use Rattle.sheet.specs.code.Arrays.{targetAt, toAt}
+use Rattle.theory.specs.Rounds.{bad, spoiltBy}
 use Rattle.sheet.specs.code.Steps.{mostPower}
 use Rattle.walk.specs.code.Levels.{arenaOf}
 use Rattle.walk.specs.code.Nodes.{isNode}
@@ -49,6 +52,15 @@ outcomeBy false p g m h w r = to (r * m + w)
 
 unfoldable pub outcomeAt : List ℕ → List (List ℕ) → Level → Choice → ℕ → Target
 outcomeAt p g l x r = outcomeBy (l .odd) p g (l .words) (x .action) (x .rest) r
+
+-- "the test's condition as it stands" (W-203), on a line: the environment's move there spoils the choice
+unfoldable pub spoilsOn : List ℕ → List (List ℕ) → List ℕ → Level → (ℕ → Bool) → Choice → ℕ → Bool
+spoilsOn p g u l fallen x line = bad fallen (outcomeAt p g l x (toAt u line))
+
+-- what a search's answer says: the line, or none
+abbrev pub foundMeans : Found → Option ℕ
+foundMeans (At line) = some line
+foundMeans Nowhere = none
 
 -- what choosing action c at position q with the pending word w gives
 pub record Chosen (p : List ℕ) (g : List (List ℕ)) (f : List ℕ) (l : Level) (q w c : ℕ) (x : Choice) : Type 0 where
