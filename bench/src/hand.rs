@@ -148,14 +148,15 @@ impl Hand {
         &self.to[first as usize..end as usize]
     }
 
-    /// Is a command spoilt at a pair? h is the command that is then played, and rest what is pending after it.
+    /// Is a command spoilt at a pair? h is the command that is then played, and rest what is pending after it. The lines are looked at
+    /// from the last to the first.
     fn spoilt(&self, odd: bool, power: usize, ranks: &[u16], n: u16, p: usize, h: usize, rest: usize) -> bool {
         let fallen = |q: usize| {
             let rank = ranks[q * power + rest];
             rank != 0 && rank <= n
         };
         if odd {
-            return self.moves(p).iter().any(|&r| {
+            return self.moves(p).iter().rev().any(|&r| {
                 let target = self.grid[r as usize][h];
                 !self.safe(r as usize) || target == ABSENT || fallen(target as usize)
             });
@@ -163,7 +164,7 @@ impl Hand {
         let target = self.grid[p][h];
         target == ABSENT
             || !self.safe(target as usize)
-            || self.moves(target as usize).iter().any(|&r| fallen(r as usize))
+            || self.moves(target as usize).iter().rev().any(|&r| fallen(r as usize))
     }
 
     /// Goes over the pairs of the right side: number, position, oldest command and the rest of the word times the commands. Where

@@ -1,5 +1,5 @@
 //! The proved solver against two hand-written versions of the same rounds, and the proved reader, the proved judge and the proved cabin
-//! against hand-written ones, in one run on one machine.
+//! against hand-written ones, in one run on one machine; with the feature `before`, also against the library of a landing before.
 use loquatquoits_tests::judge::Judgement;
 use loquatquoits_tests::naive::{self, Game, Rule, Verdict};
 use loquatquoits_tests::proved;
@@ -9,6 +9,8 @@ use loquatquoits_tests::worst::{fan, standing, worst, Worst};
 use std::hint::black_box;
 use std::time::{Duration, Instant};
 
+#[cfg(feature = "before")]
+mod before;
 mod bits;
 mod cabin;
 mod hand;
@@ -155,9 +157,9 @@ fn around(own_positions: usize, targets: usize, moves: usize, delay: u8) -> Yard
     Yard { start: 0, actions: 8, delay, kinds: [0, 2].repeat(own_positions), targets, moves: to }
 }
 
-fn yards() {
-    println!("| yard | pairs | rounds | proved | by hand | proved / by hand | bits | proved / bits | naive |");
-    println!("|---|---|---|---|---|---|---|---|---|");
+/// The first sixteen yards.
+fn sixteen() -> Vec<(String, Yard)> {
+    let mut all = Vec::new();
     // sparser yards, most of which lose at a small lag, so that reading the sheet is most of the work
     let mut random = Random::new(4);
     for (actions, delay, own, environment, moves, unsafe_positions) in
@@ -165,7 +167,7 @@ fn yards() {
     {
         let shape = Shape { own, environment, actions, permitted: 90, moves, unsafe_positions };
         let name = format!("sparse, {actions} actions, lag {delay}, {moves} moves at most, {unsafe_positions} % unsafe");
-        measure(&name, &random_yard(&mut random, &shape).at(delay));
+        all.push((name, random_yard(&mut random, &shape).at(delay)));
     }
     // denser yards, and ones that win, so that the rounds go through all pairs
     for (actions, delay, own, environment, moves, unsafe_positions) in
@@ -173,10 +175,20 @@ fn yards() {
     {
         let shape = Shape { own, environment, actions, permitted: 98, moves, unsafe_positions };
         let name = format!("dense, {actions} actions, lag {delay}, {moves} moves at most, {unsafe_positions} % unsafe");
-        measure(&name, &random_yard(&mut random, &shape).at(delay));
-        measure(&format!("{name}, winning"), &winning_yard(&mut random, &shape, delay));
+        let winning = format!("{name}, winning");
+        all.push((name, random_yard(&mut random, &shape).at(delay)));
+        all.push((winning, winning_yard(&mut random, &shape, delay)));
     }
-    measure("chain of 127 links, lag 0", &chain(127));
+    all.push(("chain of 127 links, lag 0".into(), chain(127)));
+    all
+}
+
+fn yards() {
+    println!("| yard | pairs | rounds | proved | by hand | proved / by hand | bits | proved / bits | naive |");
+    println!("|---|---|---|---|---|---|---|---|---|");
+    for (name, yard) in sixteen() {
+        measure(&name, &yard);
+    }
     println!();
 }
 
@@ -200,11 +212,21 @@ fn worst_yards() {
         row(&format!("fan, {actions} actions, lag {delay}, {own} own positions, {hubs} of the yard's"), &fan(own, hubs, actions, delay), 5);
         println!();
     }
-    for delay in [0, 1, 5] {
-        row(&format!("standing, 8 actions, lag {delay}, 140 own positions, 53 links"), &standing(140, 53, 8, delay), 5);
+    for (name, yard) in standing_yards() {
+        row(&name, &yard, 5);
         println!();
     }
     println!();
+}
+
+/// Standing yards, in which the last of many lines spoils, and the same numbered from the other end, so that the first one does.
+fn standing_yards() -> impl Iterator<Item = (String, Yard)> {
+    [0, 1, 5].into_iter().flat_map(|delay| {
+        let late = standing(140, 53, 8, delay);
+        [("late", late.clone()), ("early", late.turned())].map(|(lines, yard)| {
+            (format!("standing, {lines} lines spoil, 8 actions, lag {delay}, 140 own positions, 53 links"), yard)
+        })
+    })
 }
 
 /// A reading is too short to be timed alone, so many are timed together.
@@ -249,14 +271,21 @@ fn readings() {
     println!();
 }
 
+/// A table with a bit of one mask turned over, for some of its masks.
+fn altered(table: &[u8], masks: usize) -> impl Iterator<Item = Vec<u8>> + '_ {
+    (table.len() - masks..table.len()).step_by(masks / 7 + 1).map(|at| {
+        let mut other = table.to_vec();
+        other[at] ^= 1;
+        other
+    })
+}
+
 /// Judging our own table, which goes over all of it.
 fn measure_judging(name: &str, yard: &Yard) {
     let (sheet, (table, answer)) = (yard.sheet(), proved::make_of(yard, yard.owed_length()).unwrap());
     assert_eq!(answer.losing, None);
     // both find the same where a bit of a mask is turned over
-    for at in (table.len() - yard.pairs()..table.len()).step_by(yard.pairs() / 7 + 1) {
-        let mut other = table.clone();
-        other[at] ^= 1;
+    for other in altered(&table, yard.pairs()) {
         let by_hand = cabin::read(&other).and_then(|other| hand::Hand::new(&sheet).judge(&other));
         assert_eq!(proved::judge(&sheet, &other).ok(), by_hand);
     }
@@ -366,4 +395,6 @@ fn main() {
     readings();
     judgings();
     cabins();
+    #[cfg(feature = "before")]
+    before::before_and_after();
 }

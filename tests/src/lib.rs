@@ -2,6 +2,7 @@
 //! compare it with.
 pub mod cabin;
 pub mod counts;
+pub mod hubs;
 pub mod judge;
 pub mod naive;
 pub mod proved;

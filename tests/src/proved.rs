@@ -42,6 +42,9 @@ extern "C" {
     ) -> u8;
 }
 
+pub type Solve = unsafe extern "C" fn(*const u8, usize, *mut u8, usize, *mut u16, usize, *mut u8, *mut usize) -> u8;
+pub type Judge = unsafe extern "C" fn(*const u8, usize, *const u8, usize, *mut u8, *mut usize) -> u8;
+
 /// What `lq_solve` leaves in `losing` where the asked lag wins.
 pub const WINS: u8 = 255;
 
@@ -82,6 +85,11 @@ impl Answer {
 
 /// The answer, or the refusal's number.
 pub fn solve(sheet: &[u8], masks: &mut [u8], ranks: &mut [u16]) -> Result<Answer, u8> {
+    solve_by(lq_solve, sheet, masks, ranks)
+}
+
+/// The same by the `lq_solve` of any library.
+pub fn solve_by(lq_solve: Solve, sheet: &[u8], masks: &mut [u8], ranks: &mut [u16]) -> Result<Answer, u8> {
     let (mut losing, mut reached) = (0x5a, 0x5a5a);
     let number = unsafe {
         lq_solve(
@@ -183,6 +191,11 @@ pub fn act(sheet: &[u8], state: &mut [u8; 21]) -> Result<u8, u8> {
 
 /// What is said of a table made elsewhere, or the refusal's number; a refusal must leave what was lent.
 pub fn judge(sheet: &[u8], table: &[u8]) -> Result<Judgement, u8> {
+    judge_by(lq_judge, sheet, table)
+}
+
+/// The same by the `lq_judge` of any library.
+pub fn judge_by(lq_judge: Judge, sheet: &[u8], table: &[u8]) -> Result<Judgement, u8> {
     let (mut verdict, mut place) = (0x5a, 0x5a5a);
     let number =
         unsafe { lq_judge(sheet.as_ptr(), sheet.len(), table.as_ptr(), table.len(), &mut verdict, &mut place) };

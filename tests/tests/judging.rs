@@ -1,7 +1,9 @@
 //! Tables made elsewhere: the proved judge against the naive one over our tables and altered ones, every single bit, damaged sheets,
-//! several faults at once and the largest tables; and what a yes means, at work in the cabin and by any choice out of the table.
+//! several faults at once, the largest tables and yards in which one line spoils; and what a yes means, at work in the cabin and by
+//! any choice out of the table.
 use loquatquoits_tests::cabin::{self, Table};
 use loquatquoits_tests::counts::{count, report, Counts};
+use loquatquoits_tests::hubs::{Flaw, Hub, LINES};
 use loquatquoits_tests::judge::{self, Judgement, Offences};
 use loquatquoits_tests::naive::{self, Game};
 use loquatquoits_tests::proved;
@@ -446,4 +448,77 @@ fn hall() {
     assert_eq!(with([0, 1], [0, 1, 2, 2, 3, 0, 0, 2]), Judgement::Pair(4));
     assert_eq!(with([0, 1], [0, 1, 2, 2, 2, 0, 0, 3]), Judgement::Pair(7));
     assert_eq!(with([0, 1], [0, 1, 2, 2, 2, 0, 0, 2]), Judgement::Sound);
+}
+
+/// Hubs without a flaw, all of whose pairs on the right side allow both commands, and our tables.
+fn mended_hubs() -> impl Iterator<Item = (Hub, Yard, Table)> {
+    Hub::all(2).map(|(hub, delay)| {
+        let yard = hub.yard(None).at(delay);
+        let table = ours(&yard).unwrap();
+        (hub, yard, table)
+    })
+}
+
+/// Our table of the mended yard for the one with a flaw. By hand: at odd lags the hub's pairs offend, which pass the door, and at even lags
+/// the door's own; where the door is lost further on, those of the passage or of the end. Without the masks behind the line the pairs
+/// before it offend, first the one with nothing but 0 pending.
+#[test]
+fn one_spoiling_line() {
+    let mut counts = Counts::new();
+    for (hub, mended, table) in mended_hubs() {
+        let [door, start, at_hub, _, passage, end] = hub.positions();
+        let (even, words) = (mended.delay % 2 == 0, mended.pairs() / mended.kinds.len());
+        assert_eq!(words_of(&judged(&mended.sheet(), &table.sheet())), "yes");
+        let mut bare = table.clone();
+        for position in [door, passage, end] {
+            bare.masks[position * words..(position + 1) * words].fill(0);
+        }
+        for flaw in Flaw::ALL {
+            let first = match flaw {
+                Flaw::Lost => if even { end } else { passage },
+                _ => if even { door } else { at_hub },
+            };
+            let before = if even { start } else { at_hub };
+            let sheet = hub.yard(Some(flaw)).at(mended.delay).sheet();
+            for (table, position) in [(&table, first), (&bare, before)] {
+                let judgement = judged(&sheet, &table.sheet()).unwrap().judgement();
+                assert_eq!(judgement, Judgement::Pair(position * words), "{hub:?} {flaw:?} {table:?}");
+            }
+            count(&mut counts, format!("lag {}: bad pair", mended.delay));
+            count(&mut counts, format!("{flaw:?} behind {}: bad pair", hub.line()));
+        }
+    }
+    let by_lag = (0..7).map(|lag| format!("lag {lag}: bad pair"));
+    let by_line = Flaw::ALL.iter().flat_map(|flaw| LINES.map(|line| format!("{flaw:?} behind {line}: bad pair")));
+    report("one spoiling line", &counts, &by_lag.chain(by_line).collect::<Vec<_>>());
+}
+
+/// One pair behind the line has no mask, which spoils one command, the last of its word: at the one pair that leads there, or at odd lags
+/// at two, as both commands lead on from the door. Without it the table gets a yes.
+#[test]
+fn one_pair_without_a_mask() {
+    let mut counts = Counts::new();
+    for (hub, yard, ours) in mended_hubs() {
+        let [door, start, at_hub, _, passage, _] = hub.positions();
+        let odd = yard.delay as usize % 2;
+        let (from, behind) = if odd == 0 { (start, door) } else { (at_hub, passage) };
+        let words = 1 << (yard.delay / 2);
+        for word in 0..words {
+            let mut table = ours.clone();
+            let judgement = |table: &Table| judged(&yard.sheet(), &table.sheet()).unwrap().judgement();
+            table.masks[behind * words + word] = 0;
+            for oldest in 0..=odd {
+                let joined = oldest * words + word;
+                let pair = from * words + joined / 2;
+                assert_eq!(judgement(&table), Judgement::Pair(pair), "{hub:?} {yard:?} {table:?}");
+                table.masks[pair] ^= 1 << (joined % 2);
+                count(&mut counts, format!("lag {}, {}: bad pair", yard.delay, hub.line()));
+            }
+            // at lag 1 the hub itself is left without a mask, and the first word 0 leads to it
+            let rest = if yard.delay == 1 { Judgement::Word(0) } else { Judgement::Sound };
+            assert_eq!(judgement(&table), rest, "{hub:?} {yard:?} {table:?}");
+        }
+    }
+    let by_line = (0..7).flat_map(|lag| LINES.map(|line| format!("lag {lag}, {line}: bad pair")));
+    report("one pair without a mask", &counts, &by_line.collect::<Vec<_>>());
 }

@@ -1,6 +1,8 @@
-//! The proved reader and solver against the naive ones: document 01's yards, random yards of every lag, and damaged sheets. A rule
-//! of the naive solver that is wrong makes these fail: set NAIVE_RULE to strike-once, freshest-action or pass-unsafe and see.
+//! The proved reader and solver against the naive ones: document 01's yards, random yards of every lag, yards in which one line spoils,
+//! and damaged sheets. A rule of the naive solver that is wrong makes these fail: set NAIVE_RULE to strike-once, freshest-action or
+//! pass-unsafe and see.
 use loquatquoits_tests::counts::{count, report, Counts};
+use loquatquoits_tests::hubs::{wide_gate, windows, Flaw, Hub, LINES};
 use loquatquoits_tests::naive::{self, Game, Rule, Verdict};
 use loquatquoits_tests::proved::{self, Answer};
 use loquatquoits_tests::random::Random;
@@ -307,4 +309,130 @@ fn worst_yards() {
         compare(&standing(5, 6, 2, delay).sheet(), &mut counts);
     }
     report("worst yards", &counts, &["winning at 4".into(), "winning at 5".into(), "winning at 6".into()]);
+}
+
+/// One line of a hub spoils command 0, wherever it stands among the others. By hand: where 0 is in question command 1 alone is left, and
+/// both are once the door is mended or that line, and no other, is gone.
+#[test]
+fn one_spoiling_line() {
+    let mut counts = Counts::new();
+    for (hub, delay) in Hub::all(2) {
+        let [door, start, at_hub, haven, ..] = hub.positions();
+        let words = 1 << (delay / 2);
+        // the position seen when the start's command is chosen, and the last one before the door that has pairs
+        let (seen, last) = if delay % 2 == 0 { (start, start) } else { (haven, at_hub) };
+        let mended = hub.yard(None).at(delay);
+        compare(&mended.sheet(), &mut counts);
+        // by lag, the round in which that last one falls with nothing but 0 pending; 0 where it is kept
+        for (flaw, rounds) in [
+            (Flaw::Unsafe, [0, 2, 2, 2, 2, 2, 2]),
+            (Flaw::Lost, [0, 3, 3, 3, 3, 3, 3]),
+            (Flaw::Absent, [0, 0, 0, 2, 3, 2, 3]),
+        ] {
+            let yard = hub.yard(Some(flaw)).at(delay);
+            compare(&yard.sheet(), &mut counts);
+            // 0 is in question for the start, after nothing but 1; where the door does not permit it, for the door, after a 0 for the start
+            let pair = match flaw {
+                Flaw::Absent if delay == 1 => at_hub,
+                Flaw::Absent if delay > 1 => seen * words + words - 2,
+                _ => seen * words + words - 1,
+            };
+            // at lag 0 the door is seen before its command is chosen, and nothing is spoilt
+            let left = if (flaw, delay) == (Flaw::Absent, 0) { 3 } else { 2 };
+            let (answer, masks, ranks) = solve(&yard);
+            let expected = (None, left, rounds[delay as usize]);
+            assert_eq!((answer, masks[pair], ranks[last * words]), expected, "{hub:?} {yard:?}");
+            assert_eq!(solve(&mended).1[pair], 3, "{hub:?} {yard:?}");
+            for cut in yard.moves.iter().filter(|line| line[0] as usize == at_hub && (2..10).contains(&hub.doors)) {
+                let moves = yard.moves.iter().filter(|line| *line != cut).copied().collect();
+                let mask = solve(&Yard { moves, ..yard.clone() }).1[pair];
+                assert_eq!(mask, if cut[1] as usize == door { 3 } else { left }, "{hub:?} {yard:?} without {cut:?}");
+            }
+            if left == 2 {
+                count(&mut counts, format!("{flaw:?} behind {}", hub.line()));
+            }
+        }
+    }
+    let by_line = Flaw::ALL.iter().flat_map(|flaw| LINES.map(|line| format!("{flaw:?} behind {line}")));
+    let winning = (0..7).map(|delay| format!("winning at {delay}"));
+    report("one spoiling line", &counts, &by_line.chain(winning).collect::<Vec<_>>());
+}
+
+/// The only command is spoilt by one line: the start falls in the round after the door, and what leads back to it in the next one.
+#[test]
+fn only_command_spoilt() {
+    let mut counts = Counts::new();
+    for (hub, delay) in Hub::all(1) {
+        let [door, start, ..] = hub.positions();
+        for (flaw, round) in [(Flaw::Unsafe, 1), (Flaw::Lost, 2)] {
+            let yard = hub.yard(Some(flaw)).at(delay);
+            compare(&yard.sheet(), &mut counts);
+            let mut expected: Vec<u16> = yard.kinds.iter().map(|&kind| [round + 2, 1, 0, 0][kind as usize]).collect();
+            (expected[door], expected[start]) = (round, round + 1);
+            let (answer, _, ranks) = solve(&yard);
+            assert_eq!((answer, ranks), (Some(0), expected), "{hub:?} {yard:?}");
+            count(&mut counts, format!("{flaw:?} behind {}", hub.line()));
+        }
+        let mended = hub.yard(None).at(delay);
+        compare(&mended.sheet(), &mut counts);
+        assert_eq!(solve(&mended).0, None);
+    }
+    let by_line = ["Unsafe", "Lost"].iter().flat_map(|flaw| LINES.map(|line| format!("{flaw} behind {line}")));
+    report("only command spoilt", &counts, &by_line.chain(["losing 0".into()]).collect::<Vec<_>>());
+}
+
+/// One own position permits command 1 alone and the others 0 alone, so that one line spoils command 0 and any other command 1: lag 1
+/// loses, as in the split gate.
+#[test]
+fn wide_gates() {
+    let mut counts = Counts::new();
+    for (hub, delay) in Hub::all(2).filter(|(hub, _)| hub.doors > 1) {
+        let numbered = |yard: Yard| if hub.turned { yard.turned() } else { yard }.at(delay);
+        let (yard, mended) = (numbered(wide_gate(hub.doors, Some(hub.place))), numbered(wide_gate(hub.doors, None)));
+        compare(&yard.sheet(), &mut counts);
+        compare(&mended.sheet(), &mut counts);
+        let (answer, masks, ranks) = solve(&yard);
+        let gate = yard.moves[0][0] as usize;
+        if delay == 0 {
+            let mut expected = vec![0; yard.pairs()];
+            yard.targets.iter().for_each(|line| expected[line[0] as usize] = 1 << line[1]);
+            assert_eq!((answer, masks), (None, expected), "{yard:?}");
+        } else {
+            let expected: Vec<u16> = (0..yard.pairs()).map(|p| if p == gate { 2 } else { 0 }).collect();
+            assert_eq!((answer, ranks), (Some(1), expected), "{yard:?}");
+            count(&mut counts, format!("command 0 is absent behind {}", hub.line()));
+        }
+        assert_eq!(solve(&mended).0, None);
+    }
+    let by_line = LINES[1..].iter().map(|line| format!("command 0 is absent behind {line}"));
+    report("wide gates", &counts, &by_line.chain(["losing 1".into()]).collect::<Vec<_>>());
+}
+
+/// Each command is spoilt by one line, at a place of its own: the start falls, and where one hub is mended it stands by that command.
+#[test]
+fn every_command_spoilt() {
+    let mut counts = Counts::new();
+    for actions in 1..9 {
+        for mended in (0..actions).map(Some).chain([None]) {
+            let up = windows(actions, mended);
+            let yards = [up.turned(), up].into_iter().flat_map(|yard| (0..7).map(move |delay| yard.at(delay)));
+            for yard in yards.filter(|yard| yard.pairs() <= 2_000) {
+                compare(&yard.sheet(), &mut counts);
+                let (answer, masks, ranks) = solve(&yard);
+                let Some(command) = mended else {
+                    let mut expected: Vec<u16> = yard.kinds.iter().map(|&kind| [3, 1, 0, 0][kind as usize]).collect();
+                    expected[yard.start as usize] = 2;
+                    assert_eq!((answer, &ranks[..expected.len()]), (Some(0), &expected[..]), "{yard:?}");
+                    continue;
+                };
+                // at the start, or at the haven a move before, with nothing but that command pending
+                let haven = yard.targets.iter().find(|line| line[0] != yard.start).unwrap()[2];
+                let position = if yard.delay % 2 == 0 { yard.start } else { haven };
+                let pair = (0..yard.delay / 2).fold(position as usize, |k, _| k * actions as usize + command as usize);
+                assert_eq!((answer, masks[pair]), (None, 1 << command), "{yard:?}");
+            }
+        }
+    }
+    let winning = (0..7).map(|delay| format!("winning at {delay}"));
+    report("every command spoilt", &counts, &winning.chain(["losing 0".into()]).collect::<Vec<_>>());
 }

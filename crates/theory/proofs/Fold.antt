@@ -4,15 +4,15 @@ use mathlib.Core.Path.{_≡_, refl, sym, _∙_, ap, fun-ext}
 use mathlib.Core.Bool.{Bool, true, false, not, cond, true≢false, false≢true}
 use mathlib.Core.Logic.{_⊎_, inl, inr, ⊎-elim, _↔_}
 use mathlib.Core.List.{List, [], _∷_, map, List·Memᴰ, List·Memᴰ·head, List·Memᴰ·tail, List·Memᴰ·cases-cons, List·Memᴰ·not-nil}
-use mathlib.Core.Option.{Option, none, some, Option·some-injective, Option·none-ne-some, Option·some-ne-none}
+use mathlib.Core.Option.{none, some, Option·some-injective, Option·none-ne-some, Option·some-ne-none}
 use native.Mathlib.Omega.{arith}
 use native.Mathlib.Nat.{eq-or-lt-of-le, le-of-suc-le-suc, le-refl}
 use native.Mathlib.Numerals.{add-one}
 use lib.Dec.{eqb, leb, ltb}
 use lib.ListN.{length, getD, set, take, drop, length-set, length-drop, List·getD-eq-default}
 use lib.Seq.{getD-set-same, getD-set-other, ext-getD, take-all}
-use borrow.Author.Tests.{eqb-true, eqb-false, leb-true, leb-false, le-leb, lt-leb, ltb-true, ltb-false, not-true, not-false}
-use Rattle.theory.specs.Fold.{both, either, allBelow, anyBelow, firstNot, lastFrom, found, count, anyOf, tabulate}
+use borrow.Author.Tests.{eqb-true, eqb-false, leb-true, le-leb, ltb-true, ltb-false, not-true, not-false}
+use Rattle.theory.specs.Fold.{both, either, allBelow, anyBelow, firstNot, lastWith, found, count, anyOf, tabulate}
 
 -- a test passes or fails
 pub bool : (b : Bool) → (b ≡ true) ⊎ (b ≡ false)
@@ -257,16 +257,16 @@ first-same p q (suc n) f =
 -- the greatest index that passes
 
 module _ (p : ℕ → Bool) (i : ℕ) where
-  last-zero : lastFrom p i 0 ≡ none
-  unfolding lastFrom
+  last-zero : lastWith p i 0 ≡ none
+  unfolding lastWith
   last-zero = refl
 
-  last-top : {n : ℕ} → i ≤ n → p n ≡ true → lastFrom p i (suc n) ≡ some n
-  unfolding lastFrom
+  last-top : {n : ℕ} → i ≤ n → p n ≡ true → lastWith p i (suc n) ≡ some n
+  unfolding lastWith
   last-top {n} h t = rw (both-true (leb i n) (p n) (le-leb i n h) t)
 
-  last-below : {n : ℕ} → (i ≤ n → p n ≡ false) → lastFrom p i (suc n) ≡ lastFrom p i n
-  unfolding lastFrom
+  last-below : {n : ℕ} → (i ≤ n → p n ≡ false) → lastWith p i (suc n) ≡ lastWith p i n
+  unfolding lastWith
   last-below {n} f =
       ⊎-elim
       (λ (l : leb i n ≡ true). rw (both-false (leb i n) (p n) (f (leb-true i n l))))
@@ -283,7 +283,7 @@ module _ (p : ℕ → Bool) (i : ℕ) where
   abbrev Last : ℕ → ℕ → Type 0
   Last n k = (i ≤ k) × (k < n) × (p k ≡ true) × ((j : ℕ) → k < j → j < n → p j ≡ false)
 
-  last-is : (n k : ℕ) → lastFrom p i n ≡ some k → Last n k
+  last-is : (n k : ℕ) → lastWith p i n ≡ some k → Last n k
   last-is zero k e = absurd (Option·none-ne-some k (sym last-zero ∙ e))
   last-is (suc n) k e =
       ⊎-elim
@@ -301,20 +301,20 @@ module _ (p : ℕ → Bool) (i : ℕ) where
       ))
       (top? n)
 
-  is-last : (n k : ℕ) → Last n k → lastFrom p i n ≡ some k
+  is-last : (n k : ℕ) → Last n k → lastWith p i n ≡ some k
   is-last zero k r = let b = r .1 in absurd (omega arith)
   is-last (suc n) k r =
       ⊎-elim
       (λ (l : k < n). last-below (λ h. r .3 n l (omega arith)) ∙ is-last n k (r .0, l, r .2, λ j a b. r .3 j a (omega arith)))
-      (λ (e : k ≡ n). ap (λ (m : ℕ). lastFrom p i (suc m)) (sym e) ∙ last-top (r .0) (r .2))
+      (λ (e : k ≡ n). ap (λ (m : ℕ). lastWith p i (suc m)) (sym e) ∙ last-top (r .0) (r .2))
       (below-cases (r .1))
 
-  -- W-203, for every condition: a search for the last one stops at k exactly if the condition holds at k and at no later one
+  -- W-203, for every condition: "it stops at the last line that meets the test's condition", where it holds, and at no later one does
   pub last-iff : (n k : ℕ)
-      → (lastFrom p i n ≡ some k) ↔ ((i ≤ k) × (k < n) × (p k ≡ true) × ((j : ℕ) → k < j → j < n → p j ≡ false))
+      → (lastWith p i n ≡ some k) ↔ ((i ≤ k) × (k < n) × (p k ≡ true) × ((j : ℕ) → k < j → j < n → p j ≡ false))
   last-iff n k = (last-is n k, is-last n k)
 
-  last-none : (n : ℕ) → lastFrom p i n ≡ none → (j : ℕ) → i ≤ j → j < n → p j ≡ false
+  last-none : (n : ℕ) → lastWith p i n ≡ none → (j : ℕ) → i ≤ j → j < n → p j ≡ false
   last-none zero e j a b = absurd (omega arith)
   last-none (suc n) e j a b =
       ⊎-elim
@@ -326,27 +326,27 @@ module _ (p : ℕ → Bool) (i : ℕ) where
       (below-cases b))
       (top? n)
 
-  none-last : (n : ℕ) → ((j : ℕ) → i ≤ j → j < n → p j ≡ false) → lastFrom p i n ≡ none
+  none-last : (n : ℕ) → ((j : ℕ) → i ≤ j → j < n → p j ≡ false) → lastWith p i n ≡ none
   none-last zero f = last-zero
   none-last (suc n) f = last-below (λ h. f n h (omega arith)) ∙ none-last n (λ j a b. f j a (omega arith))
 
-  -- and finds none exactly if it holds at none
-  pub last-none-iff : (n : ℕ) → (lastFrom p i n ≡ none) ↔ ((j : ℕ) → i ≤ j → j < n → p j ≡ false)
+  -- "and finds none exactly if no line does"
+  pub last-none-iff : (n : ℕ) → (lastWith p i n ≡ none) ↔ ((j : ℕ) → i ≤ j → j < n → p j ≡ false)
   last-none-iff n = (last-none n, none-last n)
 
   -- a search from the end down that has come to n: what its next turn finds, r being the test's result, and its end
 
-  pub last-here : {n : ℕ} {r : Bool} → i < n → r ≡ p (n - 1) → r ≡ true → lastFrom p i n ≡ some (n - 1)
+  pub last-here : {n : ℕ} {r : Bool} → i < n → r ≡ p (n - 1) → r ≡ true → lastWith p i n ≡ some (n - 1)
   last-here {n} h e t =
       let q : n ≡ suc (n - 1) = omega arith in
-      ap (lastFrom p i) q ∙ last-top (omega arith) (sym e ∙ t)
+      ap (lastWith p i) q ∙ last-top (omega arith) (sym e ∙ t)
 
-  pub last-passed : {n : ℕ} {r : Bool} → i < n → r ≡ p (n - 1) → r ≡ false → lastFrom p i n ≡ lastFrom p i (n - 1)
+  pub last-passed : {n : ℕ} {r : Bool} → i < n → r ≡ p (n - 1) → r ≡ false → lastWith p i n ≡ lastWith p i (n - 1)
   last-passed {n} h e f =
       let q : n ≡ suc (n - 1) = omega arith in
-      ap (lastFrom p i) q ∙ last-below (λ l. sym e ∙ f)
+      ap (lastWith p i) q ∙ last-below (λ l. sym e ∙ f)
 
-  pub last-over : {n : ℕ} → n ≤ i → lastFrom p i n ≡ none
+  pub last-over : {n : ℕ} → n ≤ i → lastWith p i n ≡ none
   last-over {n} h = none-last n (λ j a b. absurd (omega arith))
 
 -- some index below n
@@ -484,14 +484,9 @@ module _ {A : Type 0} where
       ∙ sym (getD-tabulate g n k x m ∙ other k e))
       (same? k v))
 
-  -- a range of a tabulated list that is over, and one that goes on
+  -- a range of a tabulated list that is over
   pub tabulate-none : (f : ℕ → A) (i e : ℕ) → e ≤ i → tabulate f i (e - i) ≡ []
   tabulate-none f i e h = let q : e - i ≡ 0 = omega arith in rw q (tabulate-zero f i)
-
-  pub tabulate-next : (f : ℕ → A) (i e : ℕ) → i < e → tabulate f i (e - i) ≡ f i ∷ tabulate f (i + 1) (e - (i + 1))
-  tabulate-next f i e h =
-      let q : e - i ≡ suc (e - (i + 1)) = omega arith in
-      rw (q, tabulate-suc f i (e - (i + 1)), add-one i)
 
 -- the rest of a list, as a part of a slice without an end is lent
 pub take-rest : (l : List ℕ) (n : ℕ) → take (length l - n) (drop n l) ≡ drop n l
@@ -596,12 +591,12 @@ any-tabulate p f i (suc n) =
 
 -- a search finds something exactly if an entry of the tabulated list passes
 
-found-below : (p : ℕ → Bool) (i m : ℕ) → found (lastFrom p i (i + m)) ≡ anyBelow (λ k. p (i + k)) m
+found-below : (p : ℕ → Bool) (i m : ℕ) → found (lastWith p i (i + m)) ≡ anyBelow (λ k. p (i + k)) m
 unfolding found
 found-below p i zero = let q : i + 0 ≤ i = omega arith in ap found (last-over p i q) ∙ sym (any-none (λ k. p (i + k)))
 found-below p i (suc m) =
     let q : i + suc m ≡ suc (i + m) = omega arith in
-    ap (λ n. found (lastFrom p i n)) q
+    ap (λ n. found (lastWith p i n)) q
     ∙ ⊎-elim
     (λ (t : p (i + m) ≡ true). ap found (last-top p i (omega arith) t) ∙ sym (any-suc (λ k. p (i + k)) m ∙ either-right _ _ t))
     (λ (f : p (i + m) ≡ false).
@@ -611,13 +606,13 @@ found-below p i (suc m) =
     (bool (p (i + m)))
 
 pub found-any : {A : Type 0} (p : A → Bool) (f : ℕ → A) (i n : ℕ)
-    → found (lastFrom (λ k. p (f k)) i n) ≡ anyOf p (tabulate f i (n - i))
+    → found (lastWith (λ k. p (f k)) i n) ≡ anyOf p (tabulate f i (n - i))
 unfolding found
 found-any p f i n =
     ⊎-elim
     (λ (l : i < n).
     let q : n ≡ i + (n - i) = omega arith in
-    ap (λ m. found (lastFrom (λ k. p (f k)) i m)) q
+    ap (λ m. found (lastWith (λ k. p (f k)) i m)) q
     ∙ found-below (λ k. p (f k)) i (n - i)
     ∙ sym (any-tabulate p f i (n - i)))
     (λ (g : n ≤ i).

@@ -30,10 +30,10 @@ unfoldable pub firstNot : (ℕ → Bool) → ℕ → ℕ
 firstNot p zero = 0
 firstNot p (suc n) = cond (allBelow p n) n (firstNot p n)
 
--- the greatest index from i up to n, n left out, of which p holds, if there is one
-unfoldable pub lastFrom : (ℕ → Bool) → ℕ → ℕ → Option ℕ
-lastFrom p i zero = none
-lastFrom p i (suc n) = cond (both (leb i n) (p n)) (some n) (lastFrom p i n)
+-- the greatest index from i up to n, n left out, of which p holds, if there is one: W-203's "last line that meets the test's condition"
+unfoldable pub lastWith : (ℕ → Bool) → ℕ → ℕ → Option ℕ
+lastWith p i zero = none
+lastWith p i (suc n) = cond (both (leb i n) (p n)) (some n) (lastWith p i n)
 
 -- a search has found something
 unfoldable pub found : Option ℕ → Bool

@@ -13,7 +13,7 @@ use lib.Dec.{leb}
 use lib.ListN.{length, getD, List·getD-eq-default}
 use borrow.Author.Tests.{lt-ltb, le-ltb, not-true, not-false}
 use borrow.Author.Needs.{needs}
-use Rattle.theory.specs.Fold.{either, allBelow, anyOf, lastFrom, found}
+use Rattle.theory.specs.Fold.{either, allBelow, anyOf, lastWith, found}
 use Rattle.theory.specs.Game.{Target, absent, to, Game}
 use Rattle.theory.specs.Rounds.{bad, spoiltBy}
 use Rattle.theory.specs.Delay.{withWord, movedTo, playedTo, outcomes, step}
@@ -148,7 +148,7 @@ pub ruleset spoiling = (needs, spoils-even, spoils-unsafe, spoils-absent, spoils
 
 module _ (p : List ℕ) (g : List (List ℕ)) (u : List ℕ) (l : Level) (fallen : ℕ → Bool) (x : Choice) where
   abbrev lastBelow : ℕ → Option ℕ
-  lastBelow = lastFrom (spoilsOn p g u l fallen x) (x .first)
+  lastBelow = lastWith (spoilsOn p g u l fallen x) (x .first)
 
   pub line-found : (line : ℕ) {r : Bool} → lastBelow line ≡ lastBelow (x .end) → x .first < line
       → r ≡ bad fallen (outcomeAt p g l x (toAt u (line - 1))) → r ≡ true → some (line - 1) ≡ lastBelow (x .end)
@@ -211,7 +211,7 @@ module _ (p : List ℕ) (g : List (List ℕ)) (u f : List ℕ) (l : Level) (fall
   S = spoiltBy (arenaOf p g u f l) fallen k
 
   abbrev lastOf : Choice → Option ℕ
-  lastOf x = lastFrom (spoilsOn p g u l fallen x) (x .first) (x .end)
+  lastOf x = lastBelow p g u l fallen x (x .end)
 
   -- one action
 
@@ -227,15 +227,20 @@ module _ (p : List ℕ) (g : List (List ℕ)) (u f : List ℕ) (l : Level) (fall
       ∙ either-second _ _ b
       ∙ sym (found-any (λ r. bad fallen (outcomeAt p g l x r)) (toAt u) (x .first) (x .end))
 
+  -- the search's answer decides
+  spoilt-search : (c : ℕ) {x : Choice} {r v : Found} → Chosen p g f l (k / l .words) (k % l .words) c x → x .blocked ≡ false
+      → foundMeans r ≡ lastOf x → r ≡ v → found (foundMeans v) ≡ S c
+  spoilt-search c h b e t = sym (spoilt-open c h b ∙ ap found (sym e ∙ ap foundMeans t))
+
   pub spoilt-found : (c : ℕ) {x : Choice} {r : Found} {line : ℕ} → Chosen p g f l (k / l .words) (k % l .words) c x
       → x .blocked ≡ false → foundMeans r ≡ lastOf x → r ≡ At line → true ≡ S c
   unfolding found
-  spoilt-found c h b e t = sym (spoilt-open c h b ∙ ap found (sym e ∙ ap foundMeans t))
+  spoilt-found c h b e t = spoilt-search c h b e t
 
   pub spoilt-nowhere : (c : ℕ) {x : Choice} {r : Found} → Chosen p g f l (k / l .words) (k % l .words) c x
       → x .blocked ≡ false → foundMeans r ≡ lastOf x → r ≡ Nowhere → false ≡ S c
   unfolding found
-  spoilt-nowhere c h b e t = sym (spoilt-open c h b ∙ ap found (sym e ∙ ap foundMeans t))
+  spoilt-nowhere c h b e t = spoilt-search c h b e t
 
   -- all actions: a blocked one is passed
 

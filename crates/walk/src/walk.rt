@@ -14,7 +14,7 @@ use sheet::limits::ROWS;
 ghost use mathlib.Core.Path.{_≡_};
 ghost use Prim.Native.Nat.{_≤_, _<_};
 ghost use lib.ListN.{length, getD};
-ghost use Rattle.theory.specs.Fold.{lastFrom};
+ghost use Rattle.theory.specs.Fold.{lastWith};
 ghost use Rattle.theory.specs.Rounds.{bad};
 ghost use Rattle.sheet.specs.Limits.{mostPositions};
 ghost use Rattle.sheet.specs.code.Steps.{mostPower};
@@ -161,7 +161,7 @@ fn last_spoiling(
     requires { ⌜ (level .words ≤ mostPower) × (x .rest < level .words) × (x .end < mostPower) ⌝ }
     ensures { λ r.
         ⌜ foundMeans r
-        ≡ lastFrom (spoilsOn (now (p .entry)) (now (grid .entry)) (now (u .entry)) level (fallenBy n (now (marks .entry))) x)
+        ≡ lastWith (spoilsOn (now (p .entry)) (now (grid .entry)) (now (u .entry)) level (fallenBy n (now (marks .entry))) x)
         (x .first) (x .end) ⌝ }
 {
     let mut line = x.end;

@@ -3,7 +3,7 @@
 use Prim.Native.Nat.{_-_, _≤_}
 use mathlib.Core.Path.{_≡_}
 use mathlib.Core.Bool.{true}
-use Rattle.theory.specs.Fold.{allBelow, lastFrom, found}
+use Rattle.theory.specs.Fold.{allBelow, lastWith, found}
 use Rattle.theory.specs.Rounds.{spoiltBy}
 use Rattle.walk.specs.code.Levels.{arenaOf}
 use Rattle.walk.specs.code.Walks.{fallenBy, spoilsOn}
@@ -14,10 +14,10 @@ use Rattle.walk.proofs.walk.all_spoilt_at.Tie as tie
 abbrev Inv-moves : tie.InvT-moves
 Inv-moves p grid u firsts level marks n k q w c x line₀ line =
     (line ≤ x .end)
-    × (lastFrom (spoilsOn p grid u level (fallenBy n marks) x) (x .first) line
-    ≡ lastFrom (spoilsOn p grid u level (fallenBy n marks) x) (x .first) (x .end))
+    × (lastWith (spoilsOn p grid u level (fallenBy n marks) x) (x .first) line
+    ≡ lastWith (spoilsOn p grid u level (fallenBy n marks) x) (x .first) (x .end))
     × (allBelow (spoiltBy (arenaOf p grid u firsts level) (fallenBy n marks) k) c
-    ≡ found (lastFrom (spoilsOn p grid u level (fallenBy n marks) x) (x .first) (x .end)))
+    ≡ found (lastWith (spoilsOn p grid u level (fallenBy n marks) x) (x .first) (x .end)))
 
 abbrev μ-moves : tie.MeasureT-moves
 μ-moves p grid u firsts level marks n k q w c x line₀ line = line

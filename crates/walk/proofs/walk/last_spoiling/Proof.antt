@@ -1,7 +1,7 @@
 -- `last_spoiling` meets its contract. No line passed spoils the choice: what is left to search has the same last one. Assumes nothing.
-use Prim.Native.Nat.{_-_, _≤_}
+use Prim.Native.Nat.{_≤_}
 use mathlib.Core.Path.{_≡_}
-use Rattle.theory.specs.Fold.{lastFrom}
+use Rattle.theory.specs.Fold.{lastWith}
 use Rattle.walk.specs.code.Walks.{fallenBy, spoilsOn}
 use Rattle.walk.proofs.WalkLaws.{searching}
 use Rattle.walk.proofs.walk.last_spoiling.Statement.{statement}
@@ -10,8 +10,8 @@ use Rattle.walk.proofs.walk.last_spoiling.Tie as tie
 abbrev Inv-loop : tie.InvT-loop
 Inv-loop p grid u level marks n x line₀ line =
     (line ≤ x .end)
-    × (lastFrom (spoilsOn p grid u level (fallenBy n marks) x) (x .first) line
-    ≡ lastFrom (spoilsOn p grid u level (fallenBy n marks) x) (x .first) (x .end))
+    × (lastWith (spoilsOn p grid u level (fallenBy n marks) x) (x .first) line
+    ≡ lastWith (spoilsOn p grid u level (fallenBy n marks) x) (x .first) (x .end))
 
 abbrev μ-loop : tie.MeasureT-loop
 μ-loop p grid u level marks n x line₀ line = line
