@@ -2,7 +2,7 @@
  * Loquatquoits: verified control under delay, for C and C++ callers.
  *
  * Build the library with `rt staticlib capi` and link target/staticlib/libcapi.a; besides that it needs memcpy and memset. Every function
- * is total: any bytes and any lengths get a result or a refusal. It returns 0 where it accepts, and else the refusal's number:
+ * is total: any bytes and any lengths get a result or a refusal. It answers 0 where it accepts, and else the refusal's number:
  *
  *   reading a yard sheet
  *    1  under 20 bytes, letters not S P C U, first offset not 20, a body not beginning where the last ended, or the last not ending with
@@ -32,6 +32,8 @@
  *   20  not a state: see the cabin below
  *   judging a table made elsewhere
  *   21  the sheets differ in start, number of commands, lag or highest position
+ *   hearing a packet of reports
+ *   22  more than LQ_MOST_OBSERVATIONS records
  *
  * Checks are made in the order in which each function names them. A refusal alters nothing that was lent.
  *
@@ -64,6 +66,9 @@
 
 /* The bytes of a cabin's state. */
 #define LQ_STATE 21
+
+/* The most records of a packet. */
+#define LQ_MOST_OBSERVATIONS 16
 
 /* What lq_solve and lq_make leave in *losing where the asked lag wins. */
 #define LQ_WINS 255
@@ -149,6 +154,28 @@ uint8_t lq_open(const uint8_t *sheet, size_t sheet_len, uint8_t state[LQ_STATE])
  * report, and no other byte changes; a repeat of a report, which is accepted, changes none at all.
  */
 uint8_t lq_observe(const uint8_t *sheet, size_t sheet_len, uint8_t state[LQ_STATE], size_t index, uint8_t position);
+
+/* The record of a report: the position at an index of the play. */
+typedef struct {
+    size_t index;
+    uint8_t position;
+} lq_observation;
+
+/* What hearing a packet answers: 0 or the refusal's number, and the refused record's place, from 0. The place goes with 16 to 19 only. */
+typedef struct {
+    uint8_t refusal;
+    size_t place;
+} lq_heard;
+
+/*
+ * Hears a packet of count reports: refusals 10 to 12, 20, then 22 before any record is looked at, then 16 to 19 by record. It is accepted
+ * exactly if lq_observe would accept each record, first to last, and the state then has the very bytes that those calls leave. Otherwise
+ * nothing is heard: all bytes of the state are as they were, also where records before the refused one could be heard, and the answer has
+ * the first refusal. With 16 to 19 comes the place of the refused record; without them the place is 0 and says nothing. An empty packet
+ * is accepted where 10 to 12 and 20 don't refuse it, and changes nothing. Any rearrangement of an accepted packet is accepted and leaves
+ * the same bytes.
+ */
+lq_heard lq_observe_all(const uint8_t *sheet, size_t sheet_len, uint8_t state[LQ_STATE], const lq_observation *observations, size_t count);
 
 /*
  * Gives the command of the state's turn: refusals 10 to 12, 20, then 15, 13 and 14. Accepted: *action is the command, the turn goes up by

@@ -13,7 +13,7 @@ use Rattle.state.specs.State.{lastTurn, stateOk}
 use Rattle.state.specs.StateBytes.{decodeState, slotFilled}
 use Rattle.state.specs.declared.state.State.{State}
 use Rattle.controller.specs.Controller.{TurnTaken, observeAnswer, actAnswer}
-use Rattle.controller.specs.Accuracy.{Response, accepts, acts, refuses, observe, act, Reply, afterObserving, afterActing, reply}
+use Rattle.controller.specs.Accuracy.{Response, accepts, acts, refuses, refusesAt, observe, act, Reply, afterObserving, afterActing, reply}
 use Rattle.controller.specs.Meaning.{responseOf, stepMeans}
 use Rattle.controller.proofs.Answers.{observe-accepted}
 use Rattle.controller.specs.declared.calls.Decision.{Decision}
@@ -22,17 +22,19 @@ use Rattle.controller.specs.declared.calls.Step.{Step}
 use Rattle.capi.specs.Exported.{byAnswer}
 use Rattle.capi.proofs.ExportLaws.{by-refused, by-accepted}
 
--- the answer that a reply came from; the last case of each is never one
+-- the answer that a reply came from; the last two cases of each are never one
 
 abbrev answerIn : Response → State → Answer State
 answerIn accepts s = accepted s
 answerIn (refuses n) s = refused n
 answerIn (acts c) s = refused 0
+answerIn (refusesAt n place) s = refused 0
 
 abbrev actedIn : Response → State → Answer TurnTaken
 actedIn (acts c) s = accepted (record { action = c; state = s })
 actedIn (refuses n) s = refused n
 actedIn accepts s = refused 0
+actedIn (refusesAt n place) s = refused 0
 
 answer-in : (s : State) (a : Answer State) → answerIn (afterObserving s a .response) (afterObserving s a .state) ≡ a
 answer-in s (refused n) = refl

@@ -1,6 +1,6 @@
 -- Calls over a state's bytes are the calls of the controller's claim (demand 3, in claims/proofs/Accuracy.antt), and a repeat changes no
 -- byte. Assumes nothing.
-use Prim.Native.Nat.{ℕ, _-_, _*_, _≤_, _<_}
+use Prim.Native.Nat.{ℕ, _-_, _*_, _≤_}
 use mathlib.Core.Path.{_≡_, refl, _∙_, ap, subst}
 use mathlib.Core.Bool.{true}
 use mathlib.Core.List.{List, [], _∷_}
@@ -13,15 +13,17 @@ use Rattle.theory.specs.Exact.{MaybeAction, none, some}
 use Rattle.theory.proofs.Fold.{both-left}
 use Rattle.theory.proofs.Answer.{refused-not-accepted, accepted-same, check-accepted, accepted-on}
 use Rattle.table.specs.TableSheet.{TableSheet, tableAnswer}
-use Rattle.state.specs.State.{lastTurn, slots, opened, slotAt, stateOk, pushed, shifted, actedState}
-use Rattle.state.specs.StateBytes.{stateBytes, decodeState, slotBytes, encodeState, slotFilled}
+use Rattle.state.specs.State.{lastTurn, opened, slotAt, stateOk, pushed, shifted, actedState}
+use Rattle.state.specs.StateBytes.{stateBytes, decodeState, slotBytes, encodeState, indexFilled}
 use Rattle.state.proofs.RoundTrip.{HasBytes, decode-encode}
-use Rattle.state.proofs.Repeat.{repeat-bytes, decode-filled, length-filled}
+use Rattle.state.proofs.Repeat.{repeat-bytes, length-filled}
 use Rattle.state.specs.declared.state.State.{State}
 use Rattle.controller.specs.Controller.{TurnTaken, obey, nextAction, actWith, openAnswer, observeAnswer, actAnswer}
-use Rattle.controller.specs.Accuracy.{Call, observe, act, acts, Progress, afterObserving, afterActing, reply, callStep, runCalls}
-use Rattle.controller.proofs.Answers.{observe-accepted}
+use Rattle.controller.specs.Accuracy.{Response, accepts, refuses, refusesAt, Call, observe, observeAll, act, acts, Progress, afterObserving, afterActing, reply, callStep, runCalls}
 use Rattle.controller.proofs.CallLaws.{usable}
+use Rattle.packet.specs.Packet.{packetReply}
+use Rattle.packet.specs.Told.{told}
+use Rattle.packet.proofs.PacketBytes.{index-decodes, packet-follows, packet-long}
 use Rattle.capi.specs.Exported.{byAnswer, numberFor, written}
 use Rattle.capi.specs.Controlled.{bytesOpened, actionAfter, callNumber, responseNumber, bytesAfter, runBytes}
 
@@ -73,23 +75,24 @@ act-follows b (accepted g) f = decode-encode (g .state) (f g refl)
 
 -- an accepted observation of any bytes of a state: filling its slot gives the observed state
 filled-follows : (t b : List ℕ) (k p : ℕ) (n : State) → length b ≡ stateBytes → observeAnswer t (decodeState b) k p ≡ accepted n
-    → decodeState (slotFilled b (2 * decodeState b .turn - k) p) ≡ n
+    → decodeState (indexFilled b k p) ≡ n
+unfolding observeAnswer
 filled-follows t b k p n long e =
-    let o = observe-accepted t (decodeState b) k p n e in
-    let short = usable t (o .0) (o .1) .short-delay in
-    let slot : 2 * decodeState b .turn - k < slots = omega (arith, short, o .2 .not-old) in
-    decode-filled b (2 * decodeState b .turn - k) p long slot (o .2 .same) ∙ o .3
+    let a = accepted-on (tableAnswer t) _ e in
+    index-decodes (a .0) (usable t (a .0) (a .1) .short-delay) b long k p n (a .2)
 
 -- for any bytes of a state: what a call leaves decodes to the state that the controller's call leaves
 pub bytes-follow : (t b : List ℕ) (c : Call) → length b ≡ stateBytes → decodeState (bytesAfter t b c) ≡ reply t (decodeState b) c .state
 bytes-follow t b (observe k p) long =
     observe-follows b _ (observeAnswer t (decodeState b) k p) (λ n e. filled-follows t b k p n long e)
+bytes-follow t b (observeAll os) long = packet-follows t b long os
 bytes-follow t b act long = act-follows b (actAnswer t (decodeState b)) (acted-bytes t (decodeState b))
 
 -- and there are as many of them
 pub bytes-long : (t b : List ℕ) (c : Call) → length b ≡ stateBytes → length (bytesAfter t b c) ≡ stateBytes
 unfolding encodeState slotBytes
 bytes-long t b (observe k p) long = written-is (λ (l : List ℕ). length l ≡ stateBytes) _ _ b long (λ s. length-filled b _ p ∙ long)
+bytes-long t b (observeAll os) long = packet-long t b os ∙ long
 bytes-long t b act long = written-is (λ (l : List ℕ). length l ≡ stateBytes) _ _ b long (λ a. refl)
 
 opened-back : decodeState (encodeState opened) ≡ opened
@@ -131,8 +134,15 @@ unfolding byAnswer
 act-number s (refused n) = refl
 act-number s (accepted g) = refl
 
+told-number : (r : Response) → told r .refusal ≡ responseNumber r
+told-number accepts = refl
+told-number (acts a) = refl
+told-number (refuses n) = refl
+told-number (refusesAt n place) = refl
+
 pub numbers-follow : (t b : List ℕ) (c : Call) → callNumber t b c ≡ responseNumber (reply t (decodeState b) c .response)
 numbers-follow t b (observe k p) = observe-number (decodeState b) (observeAnswer t (decodeState b) k p)
+numbers-follow t b (observeAll os) = told-number (packetReply t b os .response)
 numbers-follow t b act = act-number (decodeState b) (actAnswer t (decodeState b))
 
 act-action : (s : State) (a : Answer TurnTaken) (c x : ℕ) → afterActing s a .response ≡ acts c → written (λ g. g .action) a x ≡ c

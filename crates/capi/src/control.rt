@@ -1,13 +1,19 @@
 // Opening, observing and acting for C and Rust callers, who keep the state as bytes. Every function takes any bytes.
 use controller::calls::Decision;
+use controller::calls::Observation;
 use controller::calls::act;
 use controller::calls::observe;
 use controller::calls::opening;
+use packet::answer::PacketAnswer;
+use packet::answer::tell;
+use packet::hearing::observe_all;
 use state::bytes::STATE_BYTES;
 use state::bytes::encode;
 use state::bytes::fill_slot;
 ghost use mathlib.Core.Path.{_≡_};
 ghost use Rattle.controller.specs.Controller.{openAnswer};
+ghost use Rattle.packet.specs.Packet.{packetReply};
+ghost use Rattle.packet.specs.Told.{told};
 ghost use Rattle.capi.specs.Exported.{numberFor};
 ghost use Rattle.capi.specs.Controlled.{observing, acting, bytesOpened, bytesObserved, bytesActed, actionAfter};
 
@@ -49,6 +55,20 @@ pub extern "C" fn lq_observe(
         }
         Decision::Acted(_) => 0, // observing takes no action
     }
+}
+
+#[no_mangle]
+pub extern "C" fn lq_observe_all(
+    sheet: &[u8],
+    state: &mut [u8; STATE_BYTES],
+    observations: &[Observation],
+) -> PacketAnswer
+    ensures answer { λ r. ⌜ r ≡ told (packetReply (now (sheet .entry)) (now (state .entry)) (now (observations .entry)) .response) ⌝ }
+    ensures state { λ r. ⌜ now (state .exit)
+        ≡ packetReply (now (sheet .entry)) (now (state .entry)) (now (observations .entry)) .bytes ⌝ }
+{
+    let heard = observe_all(sheet, state, observations);
+    tell(heard, state)
 }
 
 #[no_mangle]

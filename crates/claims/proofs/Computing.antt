@@ -1,14 +1,14 @@
 -- Names for what a table of cases computes with: to unfold one of them is to unfold every definition on its line. Assumes nothing.
 use mathlib.Core.Bool.{Bool, true}
 use Rattle.sheet.proofs.Computing.{sheet-computes}
-use Rattle.controller.specs.Accuracy.{callStep, Truthful}
+use Rattle.controller.specs.Accuracy.{indicesIn, callStep, TrueReports, Truthful}
 use Rattle.solver.specs.Solving.{solveAnswer}
 use Rattle.theory.specs.Table.{ours}
 use Rattle.writer.specs.SheetBytes.{headerOf, tableBytes, tableSheet, rankSheet}
 use Rattle.maker.specs.Making.{tableSheetOf, rankSheetOf, madeOf, outputSize, makeAnswer}
 use Rattle.table.proofs.Computing.{table-computes}
 use Rattle.state.specs.State.{slotAt, agrees, heldAt, withinAt, heldOk, windowOk, stateOk, pushed, shiftedAt, shifted}
-use Rattle.controller.specs.Controller.{observeWith, wordOf, obey, nextAction, neededKnown, actWith, openAnswer, observeAnswer, actAnswer}
+use Rattle.controller.specs.Controller.{observeWith, wordOf, obey, nextAction, neededKnown, actWith, openAnswer, observeAnswer, actAnswer, onHeard, observeEach, packetAnswer}
 
 unfoldable pub solving-computes : Bool
 unfolding solveAnswer
@@ -23,9 +23,9 @@ unfolding slotAt agrees heldAt withinAt heldOk windowOk stateOk pushed shiftedAt
 states-compute = true
 
 unfoldable pub calls-compute : Bool
-unfolding observeWith wordOf obey nextAction neededKnown actWith openAnswer observeAnswer actAnswer
+unfolding observeWith wordOf obey nextAction neededKnown actWith openAnswer observeAnswer actAnswer onHeard observeEach packetAnswer
 calls-compute = true
 
 unfoldable pub claims-compute : Bool
-unfolding sheet-computes solving-computes making-computes table-computes states-compute calls-compute callStep Truthful
+unfolding sheet-computes solving-computes making-computes table-computes states-compute calls-compute indicesIn callStep TrueReports Truthful
 claims-compute = true

@@ -2,6 +2,7 @@
 pub mod Demand2
 pub mod Reached
 pub mod Judged
+pub mod Packets
 pub mod Accuracy
 pub mod Computing
 pub mod Cases

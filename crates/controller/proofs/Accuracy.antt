@@ -13,10 +13,10 @@ use Rattle.theory.proofs.Fold.{any-some}
 use Rattle.theory.proofs.Answer.{accepted-same, check-accepted, accepted-on}
 use Rattle.table.specs.TableSheet.{TableSheet, decode, shapeAnswer, someFlagged, tableAnswer}
 use Rattle.state.specs.State.{opened}
-use Rattle.controller.specs.Controller.{openAnswer, observeAnswer, actAnswer}
-use Rattle.controller.specs.Accuracy.{Call, observe, act, reply, Progress, begun, turnOf, callStep, runCalls, IsTrue, Truthful, Answered, GoesSafely, Accurate}
+use Rattle.controller.specs.Controller.{openAnswer, observeAnswer, packetAnswer, actAnswer}
+use Rattle.controller.specs.Accuracy.{Call, observe, observeAll, act, reply, Progress, begun, turnOf, callStep, runCalls, IsTrue, Truthful, Answered, GoesSafely, Accurate}
 use Rattle.controller.specs.Sound.{Sound}
-use Rattle.controller.proofs.Progress.{goes, Follows, begins, Right, observe-right, act-right}
+use Rattle.controller.proofs.Progress.{goes, Follows, begins, Right, observe-right, observe-all-right, act-right}
 
 -- a readable sheet has a flagged word
 pub some-word : (t : List ℕ) (x : TableSheet) → tableAnswer t ≡ accepted x → (v : ℕ) × (flagged (x .table) v ≡ true)
@@ -41,8 +41,9 @@ module _ (G : Game) (t : List ℕ) (rule : Rule) (legal : Legal G) (reads : tabl
   -- one call over the bytes
   step-right : (s : Progress) → Follow s → (c : Call) → IsTrue G t rule s c
       → Right G legal (decode t) sound word word-flagged rule is s c (reply t (s .state) c)
-  unfolding observeAnswer actAnswer onAccepted
+  unfolding observeAnswer packetAnswer actAnswer onAccepted
   step-right s f (observe k p) h = rw reads (observe-right G legal (decode t) sound word word-flagged rule is s f k p h)
+  step-right s f (observeAll os) h = rw reads (observe-all-right G legal (decode t) sound word word-flagged rule is s f os h)
   step-right s f act h = rw reads (act-right G legal (decode t) sound word word-flagged rule is s f)
 
   -- after any list of calls, from any progress that follows the exact play

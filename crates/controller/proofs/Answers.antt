@@ -1,16 +1,17 @@
 -- Laws of specs/Controller.antt: each answer of observing and of acting, with the tests that lead to it. Assumes nothing.
 use Prim.Native.Nat.{ℕ, _+_, _-_, _*_, _≤_, _<_}
-use mathlib.Core.Path.{_≡_, sym, _∙_, ap}
-use mathlib.Core.Bool.{true, false, not}
+use mathlib.Core.Path.{_≡_, refl, sym, _∙_, ap}
+use mathlib.Core.Bool.{Bool, true, false, not}
 use mathlib.Core.List.{List}
 use native.Mathlib.Omega.{arith}
 use borrow.Author.Tests.{leb-true, le-leb, lt-leb, eq-eqb, ne-eqb}
-use Rattle.theory.specs.Answer.{refused, accepted}
+use Rattle.theory.specs.Answer.{Answer, refused, accepted, check, onAccepted}
 use Rattle.theory.specs.Exact.{none, some}
 use Rattle.theory.proofs.Answer.{accepted-same, check-passed, check-failed, check-accepted, accepted-on}
 use Rattle.table.specs.TableSheet.{TableSheet, tableAnswer}
 use Rattle.state.specs.State.{agrees, lastTurn, slotAt, stateOk, observed, actedState}
 use Rattle.state.proofs.Repeat.{repeat-same}
+use Rattle.controller.specs.code.Ages.{ageWith}
 use Rattle.controller.specs.Controller.{observeWith, obey, nextAction, neededKnown, actWith, observeAnswer}
 use Rattle.state.specs.declared.state.State.{State}
 
@@ -54,6 +55,34 @@ module _ (x : TableSheet) (s : State) (k p : ℕ) where
           ∙ check-passed _ 18 _ (le-leb k (2 * s .turn) u)
           ∙ check-passed _ 19 _ a
 
+-- by the report's age
+
+three-checks : {A B : Type 0} (a b c : Bool) (m : A) (f : A → Answer B)
+    → check a 16 (check b 17 (check c 18 (f m))) ≡ onAccepted (check a 16 (check b 17 (check c 18 (accepted m)))) f
+unfolding check onAccepted
+three-checks true true true m f = refl
+three-checks true true false m f = refl
+three-checks true false c m f = refl
+three-checks false b c m f = refl
+
+module _ (x : TableSheet) (s : State) (k p : ℕ) where
+  pub observe-aged : stateOk x s ≡ true
+      → observeWith x s k p
+      ≡ onAccepted (ageWith (x .highest) (x .delay) (2 * s .turn) k p) (λ age. check (agrees (slotAt s age) p) 19 (accepted (observed s k p)))
+  unfolding observeWith ageWith
+  observe-aged good =
+      check-passed _ 20 _ good
+      ∙ three-checks _ _ _ (2 * s .turn - k) (λ age. check (agrees (slotAt s age) p) 19 (accepted (observed s k p)))
+
+pub age-accepted : (highest d n k p age : ℕ) → ageWith highest d n k p ≡ accepted age → (age ≡ n - k) × (age ≤ d)
+unfolding ageWith
+age-accepted highest d n k p age e =
+    let c = check-accepted _ 16 _ e in
+    let b = check-accepted _ 17 _ (c .1) in
+    let f = check-accepted _ 18 _ (b .1) in
+    let g : n - k ≡ age = accepted-same (f .1) in
+    (sym g, omega (arith, leb-true n (k + d) (b .0)))
+
 -- what an accepted observation has passed
 pub record Observable (x : TableSheet) (s : State) (k p : ℕ) : Type 0 where
   pub good : stateOk x s ≡ true
@@ -62,27 +91,32 @@ pub record Observable (x : TableSheet) (s : State) (k p : ℕ) : Type 0 where
   pub not-new : k ≤ 2 * s .turn
   pub same : agrees (slotAt s (2 * s .turn - k)) p ≡ true
 
-pub observe-accepted : (t : List ℕ) (s : State) (k p : ℕ) (n : State) → observeAnswer t s k p ≡ accepted n
-    → (x : TableSheet) × (tableAnswer t ≡ accepted x) × Observable x s k p × (observed s k p ≡ n)
-unfolding observeAnswer observeWith
-observe-accepted t s k p n e =
-    let a = accepted-on (tableAnswer t) _ e in
-    let b = check-accepted _ 20 _ (a .2) in
+pub observe-with-accepted : (x : TableSheet) (s : State) (k p : ℕ) (n : State) → observeWith x s k p ≡ accepted n
+    → Observable x s k p × (observed s k p ≡ n)
+unfolding observeWith
+observe-with-accepted x s k p n e =
+    let b = check-accepted _ 20 _ e in
     let c = check-accepted _ 16 _ (b .1) in
     let d = check-accepted _ 17 _ (c .1) in
     let f = check-accepted _ 18 _ (d .1) in
     let g = check-accepted _ 19 _ (f .1) in (
-      a .0,
-      a .1,
       record {
         good = b .0;
-        low = leb-true p (a .0 .highest) (c .0);
-        not-old = leb-true (2 * s .turn) (k + a .0 .delay) (d .0);
+        low = leb-true p (x .highest) (c .0);
+        not-old = leb-true (2 * s .turn) (k + x .delay) (d .0);
         not-new = leb-true k (2 * s .turn) (f .0);
         same = g .0;
       },
       accepted-same (g .1),
     )
+
+pub observe-accepted : (t : List ℕ) (s : State) (k p : ℕ) (n : State) → observeAnswer t s k p ≡ accepted n
+    → (x : TableSheet) × (tableAnswer t ≡ accepted x) × Observable x s k p × (observed s k p ≡ n)
+unfolding observeAnswer
+observe-accepted t s k p n e =
+    let a = accepted-on (tableAnswer t) _ e in
+    let b = observe-with-accepted (a .0) s k p n (a .2) in
+    (a .0, a .1, b .0, b .1)
 
 -- "A repeat with the same position is accepted and changes nothing"
 pub repeat-leaves-state : (t : List ℕ) (s : State) (k p : ℕ) (n : State) → slotAt s (2 * s .turn - k) .known ≡ true

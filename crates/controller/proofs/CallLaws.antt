@@ -11,14 +11,15 @@ use lib.ListN.{getD, set, take}
 use mir.Syntax.{w64}
 use mir.Val.{Fits}
 use borrow.Author.Needs.{needs}
-use borrow.Author.Tests.{leb-true, lt-ltb, le-ltb, not-true, not-false}
+use borrow.Author.Tests.{leb-true, lt-leb, le-leb, lt-ltb, le-ltb, not-true, not-false}
 use Rattle.theory.specs.Fold.{either}
-use Rattle.theory.specs.Answer.{refused, accepted, onAccepted}
+use Rattle.theory.specs.Answer.{Answer, refused, accepted, check, onAccepted}
 use Rattle.theory.specs.Words.{digit}
 use Rattle.theory.specs.Strategy.{initialLength}
 use Rattle.theory.specs.Table.{flagged}
 use Rattle.theory.specs.Exact.{some, leastFlagged, lowestIn, actionAt}
 use Rattle.theory.proofs.Fold.{both-left, either-left, failed, passed}
+use Rattle.theory.proofs.Answer.{check-passed, check-failed}
 use Rattle.theory.proofs.Masks.{lowest-acts, lowest-missing, lowest-trailing}
 use Rattle.sheet.specs.Limits.{mostDelay}
 use Rattle.sheet.specs.Form.{partAt}
@@ -30,18 +31,21 @@ use Rattle.table.proofs.Accepted.{table-accepted}
 use Rattle.table.specs.declared.reading.TableLayout.{TableLayout}
 use Rattle.table.specs.declared.reading.TableReading.{TableReading}
 use Rattle.table.specs.declared.reading.TableReading.the-variants as table
-use Rattle.state.specs.State.{agrees, lastTurn, slots, unknown, seen, opened, slotAt, heldOk, windowOk, stateOk, pushed, shifted, actedState}
+use Rattle.state.specs.State.{agrees, lastTurn, slots, unknown, seen, opened, slotAt, heldOk, windowOk, stateOk, observed, pushed, shifted, actedState}
 use Rattle.state.specs.StateBytes.{decodeState}
 use Rattle.controller.specs.Controller.{observeWith, wordOf, nextAction, neededKnown, actWith, openAnswer, observeAnswer, actAnswer}
-use Rattle.controller.specs.Accuracy.{observe, act, afterObserving, afterActing, reply}
+use Rattle.controller.specs.Accuracy.{accepts, observe, act, afterObserving, afterActing, reply}
 use Rattle.controller.specs.Meaning.{stepMeans, openReply}
 use Rattle.controller.specs.code.Usable.{Usable}
+use Rattle.controller.specs.code.Ages.{ageWith, agedMeans}
+use Rattle.controller.specs.declared.calls.Aged.{Aged}
+use Rattle.controller.specs.declared.calls.Aged.the-variants as aged
 use Rattle.controller.specs.declared.calls.Decision.{Decision}
 use Rattle.controller.specs.declared.calls.Decision.the-variants.{Accepted, Acted, Refused}
 use Rattle.controller.specs.declared.calls.Step.{Step}
 use Rattle.state.specs.declared.state.Slot.{Slot}
 use Rattle.state.specs.declared.state.State.{State}
-use Rattle.controller.proofs.Answers.{observe-20, observe-16, observe-17, observe-18, observe-19, observe-accepts, act-20, act-15, act-13, act-14, act-answers}
+use Rattle.controller.proofs.Answers.{observe-20, observe-aged, age-accepted, act-20, act-15, act-13, act-14, act-answers}
 
 -- a step
 
@@ -67,58 +71,93 @@ module _ (l : TableLayout) (s : State) (b : Bool) (e : b ≡ stateOk (says l [] 
   pub turn-left : not b ≡ false → (s .turn ≡ lastTurn → ⊥) → s .turn < lastTurn
   turn-left g t = omega (arith, turn-few g)
 
--- observing; b is the result of check 20, v the delay as a number
+-- where a report goes; v is the delay as a number
+
+module _ (highest d n k p : ℕ) where
+  abbrev age : Answer ℕ
+  age = ageWith highest d n k p
+
+  pub aged-16 : highest < p → refused 16 ≡ age
+  unfolding ageWith
+  aged-16 h = sym (check-failed _ 16 _ (lt-leb p highest h))
+
+  module _ (h : p ≤ highest) where
+    pub aged-18 : n < k → refused 18 ≡ age
+    unfolding ageWith
+    aged-18 u =
+        sym
+        (check-passed _ 16 _ (le-leb p highest h) ∙ check-passed _ 17 _ (le-leb n (k + d) (omega arith)) ∙ check-failed _ 18 _ (lt-leb k n u))
+
+    module _ (u : k ≤ n) (v : ℕ) (ev : v ≡ d) where
+      pub aged-17 : v < n - k → refused 17 ≡ age
+      unfolding ageWith
+      aged-17 o = sym (check-passed _ 16 _ (le-leb p highest h) ∙ check-failed _ 17 _ (lt-leb n (k + d) (omega arith)))
+
+      pub aged-at : n - k ≤ v → accepted (n - k) ≡ age
+      unfolding ageWith
+      aged-at o =
+          sym
+          (check-passed _ 16 _ (le-leb p highest h) ∙ check-passed _ 17 _ (le-leb n (k + d) (omega arith)) ∙ check-passed _ 18 _ (le-leb k n u))
+
+pub ruleset age-laws = (needs, aged-16, aged-18, aged-17, aged-at)
+
+-- an age's slot is one of the window
+module _ (highest d n k p : ℕ) (y : Aged) (ey : agedMeans y ≡ ageWith highest d n k p) (age : ℕ) (ay : y ≡ aged.At age) where
+  is-age : (age ≡ n - k) × (age ≤ d)
+  is-age = age-accepted highest d n k p age (sym ey ∙ ap agedMeans ay)
+
+  pub age-small : d ≤ mostDelay → age < slots
+  age-small short = omega (arith, is-age .1)
+
+  pub age-fits : d ≤ mostDelay → Fits w64 (age * 2)
+  age-fits short = record { fits = omega (arith, is-age .1) }
+
+-- observing; b is the result of check 20, y where the report goes
 
 module _ (l : TableLayout) (s : State) (k p : ℕ) (r : Step) (b : Bool) (e : b ≡ stateOk (says l [] []) s) where
-  pub observed-20 : not b ≡ true → r ≡ step (Refused refusal.State) s → stepMeans r ≡ afterObserving s (observeWith (says l [] []) s k p)
+  abbrev answer : Answer State
+  answer = observeWith (says l [] []) s k p
+
+  pub observed-20 : not b ≡ true → r ≡ step (Refused refusal.State) s → stepMeans r ≡ afterObserving s answer
   observed-20 g f = ap stepMeans f ∙ ap (afterObserving s) (sym (observe-20 (says l [] []) s k p (failed e g)))
 
-  module _ (g : not b ≡ false) where
-    pub observed-16 : l .highest < p → r ≡ step (Refused refusal.UnknownPosition) s
-        → stepMeans r ≡ afterObserving s (observeWith (says l [] []) s k p)
-    observed-16 h f = ap stepMeans f ∙ ap (afterObserving s) (sym (observe-16 (says l [] []) s k p (passed e g) h))
+  module _ (g : not b ≡ false) (y : Aged) (ey : agedMeans y ≡ ageWith (l .highest) (l .delay) (2 * s .turn) k p) where
+    by-age : answer ≡ onAccepted (agedMeans y) (λ age. check (agrees (slotAt s age) p) 19 (accepted (observed s k p)))
+    by-age =
+        observe-aged (says l [] []) s k p (passed e g)
+        ∙ ap (λ a. onAccepted a (λ age. check (agrees (slotAt s age) p) 19 (accepted (observed s k p)))) (sym ey)
 
-    module _ (h : p ≤ l .highest) where
-      pub observed-18 : 2 * s .turn < k → r ≡ step (Refused refusal.TooNew) s
-          → stepMeans r ≡ afterObserving s (observeWith (says l [] []) s k p)
-      observed-18 u f = ap stepMeans f ∙ ap (afterObserving s) (sym (observe-18 (says l [] []) s k p (passed e g) h u))
+    pub observed-nowhere : (n : Refusal) → y ≡ aged.Refused n → r ≡ step (Refused n) s → stepMeans r ≡ afterObserving s answer
+    unfolding onAccepted
+    observed-nowhere n ay f =
+        ap stepMeans f
+        ∙ ap (afterObserving s)
+        (sym (by-age ∙ ap (λ y. onAccepted (agedMeans y) (λ age. check (agrees (slotAt s age) p) 19 (accepted (observed s k p)))) ay))
 
-      module _ (u : k ≤ 2 * s .turn) (v : ℕ) (ev : v ≡ l .delay) where
-        pub observed-17 : v < 2 * s .turn - k → r ≡ step (Refused refusal.TooOld) s
-            → stepMeans r ≡ afterObserving s (observeWith (says l [] []) s k p)
-        observed-17 d f =
-            let o : k + l .delay < 2 * s .turn = omega arith in
-            ap stepMeans f ∙ ap (afterObserving s) (sym (observe-17 (says l [] []) s k p (passed e g) h o))
+    module _ (age : ℕ) (ay : y ≡ aged.At age) where
+      at-age : answer ≡ check (agrees (getD (s .window) age unknown) p) 19 (accepted (observed s k p))
+      unfolding onAccepted slotAt
+      at-age = by-age ∙ ap (λ y. onAccepted (agedMeans y) (λ age. check (agrees (slotAt s age) p) 19 (accepted (observed s k p)))) ay
 
-        pub age-small : 2 * s .turn - k ≤ v → l .delay ≤ mostDelay → 2 * s .turn - k < slots
-        age-small d short = omega arith
+      module _ (a : Bool) (ea : a ≡ agrees (getD (s .window) age unknown) p) where
+        pub observed-19 : not a ≡ true → r ≡ step (Refused refusal.Contradiction) s → stepMeans r ≡ afterObserving s answer
+        observed-19 t f = ap stepMeans f ∙ ap (afterObserving s) (sym (at-age ∙ check-failed _ 19 _ (failed ea t)))
 
-        module _ (d : 2 * s .turn - k ≤ v) (a : Bool) (ea : a ≡ agrees (getD (s .window) (2 * s .turn - k) unknown) p) where
-          slot-same : a ≡ agrees (slotAt s (2 * s .turn - k)) p
-          unfolding slotAt
-          slot-same = ea
+        pub observed-accepts : not a ≡ false
+            → r ≡ step Accepted (record { turn = s .turn; last = s .last; window = set (s .window) age (seen p) })
+            → stepMeans r ≡ afterObserving s answer
+        observed-accepts t f =
+            ap stepMeans f
+            ∙ ap (λ n. record { response = accepts; state = record { turn = s .turn; last = s .last; window = set (s .window) n (seen p) } })
+            (is-age (l .highest) (l .delay) (2 * s .turn) k p y ey age ay .0)
+            ∙ ap (afterObserving s) (sym (at-age ∙ check-passed _ 19 _ (passed ea t)))
 
-          pub observed-19 : not a ≡ true → r ≡ step (Refused refusal.Contradiction) s
-              → stepMeans r ≡ afterObserving s (observeWith (says l [] []) s k p)
-          observed-19 t f =
-              let o : 2 * s .turn ≤ k + l .delay = omega arith in
-              ap stepMeans f
-              ∙ ap (afterObserving s) (sym (observe-19 (says l [] []) s k p (passed e g) h o u (failed slot-same t)))
-
-          pub observed-accepts : not a ≡ false
-              → r ≡ step Accepted (record { turn = s .turn; last = s .last; window = set (s .window) (2 * s .turn - k) (seen p) })
-              → stepMeans r ≡ afterObserving s (observeWith (says l [] []) s k p)
-          observed-accepts t f =
-              let o : 2 * s .turn ≤ k + l .delay = omega arith in
-              ap stepMeans f
-              ∙ ap (afterObserving s) (sym (observe-accepts (says l [] []) s k p (passed e g) h o u (passed slot-same t)))
-
-pub ruleset observe-laws = (needs, turn-fits, age-small, observed-20, observed-16, observed-18, observed-17, observed-19, observed-accepts)
+pub ruleset observe-laws = (needs, turn-fits, observed-20, observed-nowhere, age-small, age-fits, observed-19, observed-accepts)
 
 -- acting; v is the delay as a number
 
 -- check 20 needs no table
-state-any : (l : TableLayout) (f m : List ℕ) (s : State) → stateOk (says l [] []) s ≡ stateOk (says l f m) s
+pub state-any : (l : TableLayout) (f m : List ℕ) (s : State) → stateOk (says l [] []) s ≡ stateOk (says l f m) s
 unfolding stateOk heldOk windowOk
 state-any l f m s = refl
 
@@ -255,7 +294,7 @@ observe-any l f m s k p = refl
 
 module _ (t : List ℕ) (y : TableReading) (ey : tableReadingMeans t y ≡ tableAnswer t) where
   module _ (l : TableLayout) (el : y ≡ table.Accepted l) where
-    readable : tableAnswer t ≡ accepted (tableAt t l)
+    pub readable : tableAnswer t ≡ accepted (tableAt t l)
     readable = sym ey ∙ ap (tableReadingMeans t) el
 
     pub read-usable : Usable (tableAt t l)
@@ -283,7 +322,7 @@ module _ (t : List ℕ) (y : TableReading) (ey : tableReadingMeans t y ≡ table
     acts-read r s z e q = q ∙ ap (λ s. afterActing s (actWith (tableAt t l) s)) e ∙ rw readable
 
   module _ (n : Refusal) (en : y ≡ table.Refused n) where
-    unreadable : tableAnswer t ≡ refused (numberOf n)
+    pub unreadable : tableAnswer t ≡ refused (numberOf n)
     unreadable = sym ey ∙ ap (tableReadingMeans t) en
 
     pub opens-not : (r : Step) (s : State) → s ≡ opened → r ≡ step (Refused n) s → stepMeans r ≡ openReply t

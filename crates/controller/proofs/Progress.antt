@@ -4,26 +4,29 @@ use Prim.Native.Nat.{ℕ, zero, suc, _+_, _-_, _*_, _/_, _≤_, _<_}
 use mathlib.Core.Path.{_≡_, refl, sym, _∙_, ap, ap₂, subst}
 use mathlib.Core.Bool.{Bool, true, false, not, cond}
 use mathlib.Core.Logic.{⊎-elim}
-use mathlib.Core.List.{List, _∷_}
+use mathlib.Core.List.{List, [], _∷_}
 use native.Mathlib.Omega.{arith}
 use lib.Dec.{eqb, leb}
 use lib.ListN.{length, getD, take, set, length-set, getD-replicate}
 use lib.Seq.{ext-getD, getD-take, length-take-le, getD-set-same, getD-set-other}
 use borrow.Author.Tests.{lt-ltb, le-ltb, le-leb, lt-leb, eq-eqb, ne-eqb, eqb-true, eqb-false}
 use Rattle.theory.specs.Fold.{both, either, anyOf}
-use Rattle.theory.specs.Answer.{Answer}
+use Rattle.theory.specs.Answer.{Answer, refused, accepted, check}
 use Rattle.theory.specs.Game.{Game, Legal}
 use Rattle.theory.specs.Play.{Play, origin, last, index, back, actionsOf, lastActions, Rule, IsRule}
 use Rattle.theory.specs.Table.{Table, flagged}
 use Rattle.theory.specs.Exact.{going, Run, playOf, playBy, actionAt, exactChoice, exact, worked}
 use Rattle.theory.proofs.Fold.{bool, below?, both-true, both-false, either-left, all-below, any-of-cons, length-tabulate, getD-tabulate}
+use Rattle.theory.proofs.Answer.{check-passed, check-failed}
 use Rattle.theory.proofs.Plays.{back-play, play-position}
 use Rattle.theory.proofs.Exact.{Goes, exact-goes}
 use Rattle.table.specs.TableSheet.{TableSheet}
 use Rattle.state.specs.State.{agrees, lastTurn, mostHeld, slots, unknown, seen, slotAt, heldAt, withinAt, heldOk, windowOk, stateOk, observed, pushed, shiftedAt, shifted, actedState}
-use Rattle.controller.specs.Controller.{TurnTaken, observeWith, wordOf, nextAction, neededKnown, actWith}
+use Rattle.controller.specs.Controller.{TurnTaken, observeWith, wordOf, nextAction, neededKnown, actWith, mostObservations, Heard, heardAll, refusedAt, onHeard, observeEach}
 use Rattle.controller.specs.Sound.{Sound}
-use Rattle.controller.specs.Accuracy.{Call, observe, act, Reply, afterObserving, afterActing, Progress, begun, turnOf, after, HasAt, isObserved, toAct, rightAnswer}
+use Rattle.controller.specs.Accuracy.{Call, observe, observeAll, act, Response, accepts, refuses, refusesAt, Reply, afterObserving, afterEach, afterPacket, afterActing}
+use Rattle.controller.specs.Accuracy.{Progress, begun, turnOf, indicesIn, after, HasAt, TrueReport, TrueReports, isObserved, toAct, rightReport, rightReports, rightAnswer}
+use Rattle.controller.specs.declared.calls.Observation.{Observation}
 use Rattle.state.specs.declared.state.Slot.{Slot}
 use Rattle.state.specs.declared.state.State.{State}
 use Rattle.controller.proofs.PlayLaws.{word-actions, action-small, further, exact-further, worked-further}
@@ -141,6 +144,23 @@ module _ (G : Game) (legal : Legal G) (x : TableSheet) (sound : Sound G x) (w : 
   abbrev pub Right : Progress → Call → Reply → Type 0
   Right s c r = (r .response ≡ rightAnswer G x rule s c) × Follows (after s c r)
 
+  -- after a report of index k was observed
+  abbrev heardFrom : Progress → ℕ → State → Progress
+  heardFrom s k next = record { state = next; actions = s .actions; indices = k ∷ s .indices }
+
+  -- a report's answer is the right one, with any refusal and any rest, and the invariant holds after it
+  data ReportRight (s : Progress) (k p : ℕ) : Answer State → Type 0 where
+    report-refused : (n : ℕ) → ((refusal : ℕ → Response) (rest : Response) → rightReport x (turnOf s) k p refusal rest ≡ refusal n)
+        → ReportRight s k p (refused n)
+    report-accepted : (next : State) → ((refusal : ℕ → Response) (rest : Response) → rightReport x (turnOf s) k p refusal rest ≡ rest)
+        → Follows (heardFrom s k next) → ReportRight s k p (accepted next)
+
+  -- the same of a packet's records from a place on
+  data EachRight (s : Progress) (place : ℕ) (os : List Observation) : Heard → Type 0 where
+    each-refused : (n k : ℕ) → rightReports x (turnOf s) place os ≡ refusesAt n k → EachRight s place os (refusedAt n k)
+    each-accepted : (next : State) → rightReports x (turnOf s) place os ≡ accepts
+        → Follows (record { state = next; actions = s .actions; indices = indicesIn os (s .indices) }) → EachRight s place os (heardAll next)
+
   module _ (s : Progress) (f : Follows s) (k p : ℕ) where
     -- a report of an index in the window is true of the exact play
     told : HasAt G (worked G rule (s .actions)) k p → last G (back (2 * turnOf s - k) (play (turnOf s))) ≡ p
@@ -178,7 +198,7 @@ module _ (G : Game) (legal : Legal G) (x : TableSheet) (sound : Sound G x) (w : 
           (sym (observed-other k (s .indices) (2 * turnOf s - j) (λ r. q (omega arith)))))
           (bool (eqb j (2 * turnOf s - k)))
 
-      observed-follows : Follows (record { state = observed (s .state) k p; actions = s .actions; indices = k ∷ s .indices })
+      observed-follows : Follows (heardFrom s k (observed (s .state) k p))
       unfolding slotAt
       observed-follows =
           record {
@@ -195,37 +215,92 @@ module _ (G : Game) (legal : Legal G) (x : TableSheet) (sound : Sound G x) (w : 
             unobserved = λ j h. observed-other k (s .indices) j (λ r. omega arith) ∙ f .unobserved j h;
           }
 
-    abbrev indicesBy : Answer State → Type 0
-    indicesBy a = Right s (observe k p) (afterObserving (s .state) a)
-
-    pub observe-right : (2 * turnOf s ≤ k + x .delay → k ≤ 2 * turnOf s → HasAt G (worked G rule (s .actions)) k p)
-        → indicesBy (observeWith x (s .state) k p)
-    observe-right true-of =
+    -- a true report has the right answer, whatever becomes of the refusal and the rest
+    observe-single : TrueReport G (x .delay) rule (s .actions) k p → ReportRight s k p (observeWith x (s .state) k p)
+    observe-single true-of =
         let t = f .turn in
         let good = good-state s f in
         ⊎-elim
         (λ (o : x .highest < p).
-        subst indicesBy (sym (observe-16 x (s .state) k p good o)) (rw (lt-ltb (x .highest) p o), f))
+        subst (ReportRight s k p) (sym (observe-16 x (s .state) k p good o))
+        (report-refused 16 (λ refusal rest. rw (lt-ltb (x .highest) p o))))
         (λ (h : p ≤ x .highest).
         ⊎-elim
         (λ (o : k + x .delay < 2 * turnOf s).
-        subst indicesBy (sym (observe-17 x (s .state) k p good h (omega arith)))
-        (rw (le-ltb (x .highest) p h, lt-ltb (k + x .delay) (2 * turnOf s) o), f))
+        subst (ReportRight s k p) (sym (observe-17 x (s .state) k p good h (omega arith)))
+        (report-refused 17 (λ refusal rest. rw (le-ltb (x .highest) p h, lt-ltb (k + x .delay) (2 * turnOf s) o))))
         (λ (l : 2 * turnOf s ≤ k + x .delay).
         ⊎-elim
         (λ (o : 2 * turnOf s < k).
-        subst indicesBy (sym (observe-18 x (s .state) k p good h (omega arith)))
-        (rw (le-ltb (x .highest) p h, le-ltb (k + x .delay) (2 * turnOf s) l, lt-ltb (2 * turnOf s) k o), f))
+        subst (ReportRight s k p) (sym (observe-18 x (s .state) k p good h (omega arith)))
+        (report-refused 18
+        (λ refusal rest. rw (le-ltb (x .highest) p h, le-ltb (k + x .delay) (2 * turnOf s) l, lt-ltb (2 * turnOf s) k o))))
         (λ (u : k ≤ 2 * turnOf s).
         let e = told (true-of l u) in
-        subst indicesBy
-        (sym (observe-accepts x (s .state) k p good h (omega arith) (omega arith) (observed-agrees l u e))) (
-          rw (le-ltb (x .highest) p h, le-ltb (k + x .delay) (2 * turnOf s) l, le-ltb (2 * turnOf s) k u),
-          observed-follows l u e,
-        ))
+        subst (ReportRight s k p)
+        (sym (observe-accepts x (s .state) k p good h (omega arith) (omega arith) (observed-agrees l u e)))
+        (report-accepted (observed (s .state) k p)
+        (λ refusal rest. rw (le-ltb (x .highest) p h, le-ltb (k + x .delay) (2 * turnOf s) l, le-ltb (2 * turnOf s) k u))
+        (observed-follows l u e)))
         (below? (2 * turnOf s) k))
         (below? (k + x .delay) (2 * turnOf s)))
         (below? (x .highest) p)
+
+    single-right : {a : Answer State} → ReportRight s k p a → Right s (observe k p) (afterObserving (s .state) a)
+    single-right (report-refused n e) = (sym (e refuses accepts), f)
+    single-right (report-accepted next e g) = (sym (e refuses accepts), g)
+
+    pub observe-right : TrueReport G (x .delay) rule (s .actions) k p
+        → Right s (observe k p) (afterObserving (s .state) (observeWith x (s .state) k p))
+    observe-right true-of = single-right (observe-single true-of)
+
+  -- a packet's records from a place on, on a state that follows
+  module _ (s : Progress) (place : ℕ) where
+    each-more : (o : Observation) (later : List Observation) (next : State)
+        → ((refusal : ℕ → Response) (rest : Response) → rightReport x (turnOf s) (o .index) (o .position) refusal rest ≡ rest)
+        → {h : Heard} → EachRight (heardFrom s (o .index) next) (suc place) later h → EachRight s place (o ∷ later) h
+    unfolding rightReports indicesIn
+    each-more o later next e (each-refused n k q) =
+        each-refused n k (e (λ n. refusesAt n place) (rightReports x (turnOf s) (suc place) later) ∙ q)
+    each-more o later next e (each-accepted end q g) =
+        each-accepted end (e (λ n. refusesAt n place) (rightReports x (turnOf s) (suc place) later) ∙ q) g
+
+    each-first : (o : Observation) (later : List Observation) {a : Answer State} → ReportRight s (o .index) (o .position) a
+        → ((next : State) → Follows (heardFrom s (o .index) next)
+        → EachRight (heardFrom s (o .index) next) (suc place) later (observeEach x next (suc place) later))
+        → EachRight s place (o ∷ later) (onHeard place a (λ next. observeEach x next (suc place) later))
+    unfolding onHeard rightReports
+    each-first o later (report-refused n e) rest =
+        each-refused n place (e (λ n. refusesAt n place) (rightReports x (turnOf s) (suc place) later))
+    each-first o later (report-accepted next e g) rest = each-more o later next e (rest next g)
+
+  each-right : (s : Progress) → Follows s → (place : ℕ) (os : List Observation) → TrueReports G (x .delay) rule (s .actions) os
+      → EachRight s place os (observeEach x (s .state) place os)
+  unfolding observeEach TrueReports rightReports indicesIn
+  each-right s f place [] h = each-accepted (s .state) refl f
+  each-right s f place (o ∷ later) h =
+      each-first s place o later (observe-single s f (o .index) (o .position) (h .0))
+      (λ next g. each-right (heardFrom s (o .index) next) g (suc place) later (h .1))
+
+  module _ (s : Progress) (f : Follows s) (os : List Observation) where
+    walked-right : length os ≤ mostObservations → {h : Heard} → EachRight s 0 os h → Right s (observeAll os) (afterEach (s .state) h)
+    walked-right few (each-refused n k q) = (rw (le-ltb mostObservations (length os) few) (sym q), f)
+    walked-right few (each-accepted next q g) = (rw (le-ltb mostObservations (length os) few) (sym q), g)
+
+    abbrev PacketRight : Answer TableSheet → Type 0
+    PacketRight a = Right s (observeAll os) (afterPacket (s .state) os a)
+
+    pub observe-all-right : TrueReports G (x .delay) rule (s .actions) os
+        → PacketRight (check (stateOk x (s .state)) 20 (check (leb (length os) mostObservations) 22 (accepted x)))
+    observe-all-right true-of =
+        ⊎-elim
+        (λ (o : mostObservations < length os).
+        subst PacketRight (sym (check-passed _ 20 _ (good-state s f) ∙ check-failed _ 22 _ (lt-leb (length os) mostObservations o)))
+        (rw (lt-ltb mostObservations (length os) o), f))
+        (λ (few : length os ≤ mostObservations).
+        subst PacketRight (sym (check-passed _ 20 _ (good-state s f) ∙ check-passed _ 22 _ (le-leb (length os) mostObservations few)))
+        (walked-right few (each-right s f 0 os true-of)))
+        (below? mostObservations (length os))
 
   module _ (s : Progress) (f : Follows s) where
     abbrev needed : ℕ

@@ -1,6 +1,7 @@
 -- Opening, observing and acting, over what a table sheet says and over its bytes: document 01's "Opening the
--- cabin", "Hearing a report" and "Giving the command", each a chain of checks in the order written. Assumes nothing.
-use Prim.Native.Nat.{ℕ, _+_, _-_, _*_, _/_}
+-- cabin", "Hearing a report" and "Giving the command", each a chain of checks in the order written; and document 02's hearing of a packet
+-- (W-204). Assumes nothing.
+use Prim.Native.Nat.{ℕ, suc, _+_, _-_, _*_, _/_}
 use mathlib.Core.Bool.{Bool, not}
 use mathlib.Core.List.{List, [], _∷_}
 use lib.Dec.{eqb, leb, ltb}
@@ -11,6 +12,7 @@ use Rattle.theory.specs.Exact.{MaybeAction, none, some, actionAt}
 use Rattle.table.specs.TableSheet.{TableSheet, tableAnswer}
 use Rattle.state.specs.State.{lastTurn, opened, slotAt, agrees, stateOk, observed, actedState}
 use Rattle.state.specs.declared.state.State.{State}
+use Rattle.controller.specs.declared.calls.Observation.{Observation}
 
 -- "20; 16: position over the highest; 17: index below 2i - d (never below 0); 18: index over 2i; 19: that index heard with
 -- another position"
@@ -62,3 +64,27 @@ observeAnswer t s k p = onAccepted (tableAnswer t) (λ x. observeWith x s k p)
 
 unfoldable pub actAnswer : List ℕ → State → Answer TurnTaken
 actAnswer t s = onAccepted (tableAnswer t) (λ x. actWith x s)
+
+-- "up to 16 reports at a time"
+abbrev pub mostObservations : ℕ
+mostObservations = 16
+
+-- what observing several comes to: the state after all of them, or "the first refusal and .. its place in the list"
+pub data Heard : Type 0 where
+  heardAll : State → Heard
+  refusedAt : ℕ → ℕ → Heard
+
+unfoldable pub onHeard : ℕ → Answer State → (State → Heard) → Heard
+onHeard place (refused n) rest = refusedAt n place
+onHeard place (accepted next) rest = rest next
+
+-- "hearing them singly, first to last", each on the state that the one before it left; place is the first one's
+unfoldable pub observeEach : TableSheet → State → ℕ → List Observation → Heard
+observeEach x s place [] = heardAll s
+observeEach x s place (o ∷ later) =
+    onHeard place (observeWith x s (o .index) (o .position)) (λ next. observeEach x next (suc place) later)
+
+-- what is refused of a packet of n before any record is looked at: "10 to 12 and 20, then 22 for more than 16"
+unfoldable pub packetAnswer : List ℕ → State → ℕ → Answer TableSheet
+packetAnswer t s n =
+    onAccepted (tableAnswer t) (λ x. check (stateOk x s) 20 (check (leb n mostObservations) 22 (accepted x)))

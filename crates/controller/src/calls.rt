@@ -28,6 +28,14 @@ ghost use Rattle.controller.specs.Controller.{observeWith, actWith};
 ghost use Rattle.controller.specs.Accuracy.{observe, act, afterObserving, afterActing, reply};
 ghost use Rattle.controller.specs.Meaning.{stepMeans, openReply};
 ghost use Rattle.controller.specs.code.Usable.{Usable};
+ghost use Rattle.controller.specs.code.Ages.{ageWith, agedMeans};
+
+// The record of a report: the position at an index.
+#[repr(C)]
+pub struct Observation {
+    pub index: usize,
+    pub position: u8,
+}
 
 // What a call answers.
 pub enum Decision {
@@ -79,6 +87,29 @@ fn take_turn(delay: u8, s: State, action: u8) -> Step
     }
 }
 
+// Where a report goes: its slot's age, or why it goes nowhere.
+pub enum Aged {
+    At(usize),
+    Refused(Refusal),
+}
+
+// Checks 16 to 18 of a report under a sheet's highest position and delay, newest being the newest index that can be reported.
+pub fn age_of(highest: u8, delay: u8, newest: usize, index: usize, position: u8) -> Aged
+    ensures { λ r. ⌜ agedMeans r ≡ ageWith highest delay newest index position ⌝ }
+{
+    if highest < position {
+        return Aged::Refused(Refusal::UnknownPosition);
+    }
+    if newest < index {
+        return Aged::Refused(Refusal::TooNew);
+    }
+    let age = newest - index;
+    if wide(delay) < age {
+        return Aged::Refused(Refusal::TooOld);
+    }
+    Aged::At(age)
+}
+
 // Observing, after 10 to 12.
 fn observe_with(l: TableLayout, s: State, index: usize, position: u8) -> Step
     requires { ⌜ l .delay ≤ mostDelay ⌝ }
@@ -87,26 +118,21 @@ fn observe_with(l: TableLayout, s: State, index: usize, position: u8) -> Step
     if !state_ok(l, s) {
         return refuse(s, Refusal::State);
     }
-    if l.highest < position {
-        return refuse(s, Refusal::UnknownPosition);
+    let aged = age_of(l.highest, l.delay, 2 * s.turn, index, position);
+    match aged {
+        Aged::Refused(reason) => refuse(s, reason),
+        Aged::At(age) => {
+            if !s.window[age].agrees(position) {
+                return refuse(s, Refusal::Contradiction);
+            }
+            let mut next = s;
+            next.window[age] = Slot {
+                known: true,
+                position,
+            };
+            accept(next)
+        }
     }
-    let newest = 2 * s.turn;
-    if newest < index {
-        return refuse(s, Refusal::TooNew);
-    }
-    let age = newest - index;
-    if wide(l.delay) < age {
-        return refuse(s, Refusal::TooOld);
-    }
-    if !s.window[age].agrees(position) {
-        return refuse(s, Refusal::Contradiction);
-    }
-    let mut next = s;
-    next.window[age] = Slot {
-        known: true,
-        position,
-    };
-    accept(next)
 }
 
 // Acting, after 10 to 12.

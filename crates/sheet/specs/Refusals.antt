@@ -5,7 +5,7 @@ use Rattle.sheet.specs.declared.refusal.Refusal.{Refusal}
 use Rattle.sheet.specs.declared.refusal.Refusal.the-variants.{Contents, Positions, Header, Targets, Moves, Stuck, Size, Buffers}
 use Rattle.sheet.specs.declared.refusal.Refusal.the-variants.{Output, TableContents, TableShape, NoInitialWord, Unobserved, NoAction}
 use Rattle.sheet.specs.declared.refusal.Refusal.the-variants.{LastTurn, UnknownPosition, TooOld, TooNew, Contradiction, State}
-use Rattle.sheet.specs.declared.refusal.Refusal.the-variants.{Mismatch}
+use Rattle.sheet.specs.declared.refusal.Refusal.the-variants.{Mismatch, TooMany}
 
 abbrev pub numberOf : Refusal → ℕ
 numberOf Contents = 1
@@ -29,3 +29,4 @@ numberOf TooNew = 18
 numberOf Contradiction = 19
 numberOf State = 20
 numberOf Mismatch = 21
+numberOf TooMany = 22

@@ -24,6 +24,7 @@ pub enum Refusal {
     Contradiction,
     State,
     Mismatch,
+    TooMany,
 }
 
 impl Refusal {
@@ -53,6 +54,7 @@ impl Refusal {
             Refusal::Contradiction => 19,
             Refusal::State => 20,
             Refusal::Mismatch => 21,
+            Refusal::TooMany => 22,
         }
     }
 }

@@ -1,15 +1,17 @@
 -- Decoding and encoding, as the code of src/bytes.rt finds them. Assumes nothing.
 use Prim.Native.Nat.{ℕ, _+_, _*_, _/_, _%_, _≤_, _<_}
-use mathlib.Core.Path.{_≡_, refl, _∙_, ap}
+use mathlib.Core.Path.{_≡_, refl, sym, _∙_, ap}
 use mathlib.Core.Bool.{true, false, not}
 use mathlib.Core.List.{List, [], _∷_}
 use native.Mathlib.Omega.{arith}
 use lib.Dec.{eqb, leb}
-use lib.ListN.{getD, set}
+use lib.ListN.{getD, set, List·getD-eq-default}
+use mir.Syntax.{w8, w64}
+use mir.Val.{Fits}
 use borrow.Author.Needs.{needs}
 use borrow.Author.Tests.{le-leb, lt-leb, eq-eqb, ne-eqb}
 use Rattle.theory.specs.Fold.{either, tabulate}
-use Rattle.theory.proofs.Fold.{either-left}
+use Rattle.theory.proofs.Fold.{either-left, length-tabulate, getD-tabulate}
 use Rattle.state.specs.State.{slots, unknown, slotAt}
 use Rattle.state.specs.StateBytes.{knownAt, positionAt, turnFrom, slotFrom, slotIn, windowIn, decodeState, flagOf, slotBytes, encodeState, slotFilled}
 use Rattle.state.specs.declared.state.Slot.{Slot}
@@ -67,6 +69,29 @@ module _ (s : State) (a b c d f₀ f₁ f₂ f₃ f₄ f₅ f₆ : ℕ) where
   encode-is p q r u e₀ e₁ e₂ e₃ e₄ e₅ e₆ = rw (p, q, r, u, e₀, e₁, e₂, e₃, e₄, e₅, e₆)
 
 pub ruleset wholes = (needs, window-is, decode-is, encode-is)
+
+-- one part of it
+
+pub twice-fits : (a b c d t : ℕ) → Fits w8 a → Fits w8 b → Fits w8 c → Fits w8 d → t ≡ turnFrom a b c d → Fits w64 (2 * t)
+unfolding turnFrom
+twice-fits a b c d t fa fb fc fd e = record { fits = omega arith }
+
+pub newest-is : (b : List ℕ) (n : ℕ) → n ≡ 2 * turnFrom (getD b 0 0) (getD b 1 0) (getD b 2 0) (getD b 3 0) → n ≡ 2 * decodeState b .turn
+unfolding decodeState
+newest-is b n e = e
+
+module _ (b : List ℕ) (k : ℕ) (v : Slot) where
+  pub slot-none : slots ≤ k → v ≡ unknown → v ≡ slotAt (decodeState b) k
+  unfolding slotAt decodeState windowIn
+  slot-none h e = e ∙ sym (List·getD-eq-default (tabulate (slotIn b) 0 slots) unknown (rw (length-tabulate (slotIn b) 0 slots) h))
+
+  pub slot-some : k < slots → v ≡ slotFrom (getD b (knownAt k) 0) (getD b (knownAt k + 1) 0) → v ≡ slotAt (decodeState b) k
+  unfolding slotAt decodeState windowIn slotIn
+  slot-some h e =
+      let q : knownAt k + 1 ≡ positionAt k = omega arith in
+      e ∙ ap (λ at. slotFrom (getD b (knownAt k) 0) (getD b at 0)) q ∙ sym (getD-tabulate (slotIn b) slots k unknown h)
+
+pub ruleset reads = (needs, twice-fits, newest-is, slot-none, slot-some)
 
 pub ruleset parts = (needs, turn-is, slot-is, flag-known, flag-unknown)
 

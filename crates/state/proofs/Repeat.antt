@@ -38,13 +38,13 @@ repeat-same s k p known a =
 -- the bytes of a slot that is filled anew, and every other byte
 
 module _ (b : List ℕ) (k p : ℕ) where
-  abbrev anew : List ℕ
+  abbrev pub anew : List ℕ
   anew = set (set b (knownAt k) 1) (positionAt k) p
 
   byte-kept : (j : ℕ) → (j ≡ knownAt k → ⊥) → (j ≡ positionAt k → ⊥) → getD anew j 0 ≡ getD b j 0
   byte-kept j e f = getD-set-other (set b (knownAt k) 1) (positionAt k) j p 0 f ∙ getD-set-other b (knownAt k) j 1 0 e
 
-  slot-kept : (j : ℕ) → (j ≡ k → ⊥) → slotIn anew j ≡ slotIn b j
+  pub slot-kept : (j : ℕ) → (j ≡ k → ⊥) → slotIn anew j ≡ slotIn b j
   unfolding slotIn
   slot-kept j e =
       ap₂ slotFrom
@@ -77,7 +77,7 @@ slot-decoded : (b : List ℕ) (k : ℕ) → k < slots → slotAt (decodeState b)
 unfolding slotAt decodeState windowIn
 slot-decoded b k h = getD-tabulate (slotIn b) slots k unknown h
 
-filled-left : (b : List ℕ) (k p : ℕ) → slotIn b k .known ≡ true → slotFilled b k p ≡ b
+pub filled-left : (b : List ℕ) (k p : ℕ) → slotIn b k .known ≡ true → slotFilled b k p ≡ b
 unfolding slotFilled
 filled-left b k p e = rw (either-right _ _ e)
 
@@ -89,7 +89,7 @@ repeat-bytes b k p e =
     (λ (h : slots ≤ k). sym (filled-none b k p h))
     (below? k slots)
 
-filled-anew : (b : List ℕ) (k p : ℕ) → k < slots → slotIn b k .known ≡ false → slotFilled b k p ≡ anew b k p
+pub filled-anew : (b : List ℕ) (k p : ℕ) → k < slots → slotIn b k .known ≡ false → slotFilled b k p ≡ anew b k p
 unfolding slotFilled either
 filled-anew b k p h e = rw (lt-leb slots k h, e)
 

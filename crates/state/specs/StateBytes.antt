@@ -1,6 +1,6 @@
 -- The controller's state as 21 bytes: the turn in four, low first, at 0; the held actions at 4; slot k of the window at 7 + 2k, a
 -- byte that is not 0 where it is known, then its position. Any bytes are a state. Assumes nothing.
-use Prim.Native.Nat.{ℕ, _+_, _*_, _/_, _%_}
+use Prim.Native.Nat.{ℕ, _+_, _-_, _*_, _/_, _%_}
 use mathlib.Core.Bool.{cond, not}
 use mathlib.Core.List.{List, [], _∷_}
 use lib.Dec.{eqb, leb}
@@ -64,3 +64,7 @@ encodeState s =
 -- "changes nothing") or there is no such slot
 unfoldable pub slotFilled : List ℕ → ℕ → ℕ → List ℕ
 slotFilled b k p = cond (either (leb slots k) (slotIn b k .known)) b (set (set b (knownAt k) 1) (positionAt k) p)
+
+-- the bytes once position p was observed at index k
+abbrev pub indexFilled : List ℕ → ℕ → ℕ → List ℕ
+indexFilled b k p = slotFilled b (2 * decodeState b .turn - k) p

@@ -5,6 +5,8 @@ use crate::state::State;
 use sheet::form::low_byte;
 use sheet::form::wide;
 ghost use mathlib.Core.Path.{_≡_};
+ghost use Prim.Native.Nat.{_*_};
+ghost use Rattle.state.specs.State.{slotAt};
 ghost use Rattle.state.specs.StateBytes.{turnFrom, slotFrom, windowIn, decodeState, flagOf, encodeState, slotFilled};
 
 pub const STATE_BYTES: usize = 21;
@@ -57,6 +59,30 @@ pub fn decode(b: &[u8; STATE_BYTES]) -> State
     let last = [b[4], b[5], b[6]];
     let window = window_in(b);
     State { turn, last, window }
+}
+
+fn twice_from(a: u8, b: u8, c: u8, d: u8) -> usize
+    ensures { λ r. ⌜ r ≡ 2 * turnFrom a b c d ⌝ }
+{
+    2 * turn_from(a, b, c, d)
+}
+
+// The newest index that can be reported: twice the turn.
+pub fn newest(b: &[u8; STATE_BYTES]) -> usize
+    ensures { λ r. ⌜ r ≡ 2 * decodeState (now (b .entry)) .turn ⌝ }
+{
+    twice_from(b[0], b[1], b[2], b[3])
+}
+
+// Slot k alone; unknown where there is none.
+pub fn slot_at(b: &[u8; STATE_BYTES], k: usize) -> Slot
+    ensures { λ r. ⌜ r ≡ slotAt (decodeState (now (b .entry))) k ⌝ }
+{
+    if SLOTS <= k {
+        return Slot::unknown();
+    }
+    let at = WINDOW + 2 * k;
+    slot_from(b[at], b[at + 1])
 }
 
 pub fn encode(s: State) -> [u8; STATE_BYTES]

@@ -20,7 +20,7 @@ pub struct Slot {
 
 impl Slot {
     // A slot without an observation.
-    fn unknown() -> Slot
+    pub(crate) fn unknown() -> Slot
         ensures { λ r. ⌜ r ≡ unknown ⌝ }
     {
         Slot {

@@ -2,7 +2,7 @@
 -- leave: one table, over bytes. Cases of our own for the rounds are in theory/specs/cases/Games.antt. Assumes nothing.
 use Prim.Native.Nat.{ℕ, suc, _-_}
 use mathlib.Core.List.{List, [], _∷_, _++_}
-use lib.ListN.{length, getD}
+use lib.ListN.{length, getD, replicate}
 use Rattle.theory.specs.Fold.{tabulate}
 use Rattle.theory.specs.Answer.{Answer, accepted, onAccepted}
 use Rattle.theory.specs.Game.{Game}
@@ -16,7 +16,9 @@ use Rattle.sheet.specs.cases.Yards.{sheetWith, guess, splitGate, loop, hall}
 use Rattle.solver.specs.Solving.{solveAnswer}
 use Rattle.table.specs.TableSheet.{decode}
 use Rattle.maker.specs.Making.{Made, won, lost, makeAnswer}
-use Rattle.controller.specs.Accuracy.{Call, observe, act, Response, accepts, acts, refuses, Progress, begun, reply, callStep, exactPlay}
+use Rattle.controller.specs.Accuracy.{Call, observe, observeAll, act, Response, accepts, acts, refuses, refusesAt}
+use Rattle.controller.specs.Accuracy.{Progress, begun, reply, callStep, exactPlay}
+use Rattle.controller.specs.declared.calls.Observation.{Observation}
 
 -- the yard's rule that takes the last of the moves
 unfoldable pub lastMove : Game → Rule
@@ -92,8 +94,24 @@ controllerCases =
     ∷ plays (alternating 4) 4 (2 ∷ 4 ∷ 1 ∷ 3 ∷ 2 ∷ 4 ∷ 1 ∷ 3 ∷ 0 ∷ [])
     ∷ []
 
+-- the record of a report
+abbrev report : ℕ → ℕ → Observation
+report k p = record { index = k; position = p }
+
+-- cases of our own for packets: an empty one; records that overtake and repeat; 17, 19 and 16 at their places, with nothing heard of the
+-- records before (index 4 would say 3); 17 records and 16; and the commands as without packets
+unfoldable pub packetCases : List Case
+packetCases =
+    answers (hall 2)
+    (observeAll [] ∷ act ∷ observeAll (report 2 2 ∷ report 0 0 ∷ report 2 2 ∷ []) ∷ act ∷ observeAll (report 4 3 ∷ report 1 4 ∷ [])
+    ∷ observeAll (report 4 1 ∷ report 4 3 ∷ []) ∷ observeAll (replicate 17 (report 4 1)) ∷ observeAll (replicate 16 (report 4 1))
+    ∷ observeAll (report 4 7 ∷ []) ∷ act ∷ act ∷ act ∷ [])
+    (accepts ∷ acts 0 ∷ accepts ∷ acts 0 ∷ refusesAt 17 1 ∷ refusesAt 19 1 ∷ refuses 22 ∷ accepts ∷ refusesAt 16 0
+    ∷ acts 0 ∷ acts 1 ∷ refuses 13 ∷ [])
+    ∷ []
+
 abbrev pub cases : List Case
-cases = starred ++ controllerCases
+cases = starred ++ (controllerCases ++ packetCases)
 
 -- the hall's made sheet at delay 2
 unfoldable pub hallTable : List ℕ
@@ -103,8 +121,10 @@ hallTable =
     ∷ 1 ∷ 1
     ∷ 1 ∷ 1 ∷ 2 ∷ 2 ∷ 3 ∷ 0 ∷ 0 ∷ 3 ∷ 0 ∷ 0 ∷ 0 ∷ 0 ∷ 0 ∷ 0 ∷ []
 
--- calls to it: true reports, a repeat, false reports of indices out of the window, and refused calls
+-- calls to it: true reports, a repeat, false reports of indices out of the window, and refused calls; a packet that is accepted, and one
+-- that is refused for its second record
 unfoldable pub hallCalls : List Call
 hallCalls =
     act ∷ observe 0 0 ∷ observe 0 0 ∷ act ∷ observe 4 1 ∷ act ∷ observe 2 2 ∷ observe 5 0 ∷ observe 1 6
-    ∷ observe 3 6 ∷ act ∷ act ∷ act ∷ []
+    ∷ observe 3 6 ∷ act ∷ act ∷ act ∷ observeAll (report 8 1 ∷ report 6 3 ∷ report 6 3 ∷ [])
+    ∷ observeAll (report 7 6 ∷ report 2 5 ∷ []) ∷ act ∷ []

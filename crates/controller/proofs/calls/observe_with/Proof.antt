@@ -6,8 +6,8 @@ use Rattle.controller.proofs.calls.observe_with.Tie as tie
 pub observe-with-spec : {M : Type 1} → statement M
 observe-with-spec =
     tie.close
-    (tie.spec (λ c κs. search observe-laws) (λ c κs. search observe-laws) (λ c. search observe-laws) (λ c κs. search observe-laws)
-    (λ c. search observe-laws) (λ c. search observe-laws) (λ c κs. search observe-laws) (λ c. search observe-laws)
-    (λ c κs. search observe-laws) (λ c κs. search observe-laws) (λ c. search observe-laws) (λ c. search observe-laws)
-    (λ c. search observe-laws) (λ c κs. search observe-laws) (λ c κs. search observe-laws) (λ c. search observe-laws)
-    (λ c. search observe-laws) (λ c. search observe-laws) (λ c κs. search observe-laws) (λ c. search observe-laws))
+    (tie.spec (λ c κs. search observe-laws) (λ c κs. search observe-laws) (λ c. search observe-laws)
+    (λ c. search observe-laws) (λ c κs. search observe-laws) (λ c. search observe-laws) (λ c κs. search observe-laws)
+    (λ c. search observe-laws) (λ c. search observe-laws) (λ c. search observe-laws) (λ c κs. search observe-laws)
+    (λ c κs. search observe-laws) (λ c. search observe-laws) (λ c. search observe-laws) (λ c. search observe-laws)
+    (λ c κs. search observe-laws) (λ c. search observe-laws) (λ c. search observe-laws))

@@ -14,4 +14,4 @@ number-spec =
     (λ c. search numbers) (λ c. search numbers) (λ c. search numbers) (λ c. search numbers) (λ c. search numbers)
     (λ c. search numbers) (λ c. search numbers) (λ c. search numbers) (λ c. search numbers) (λ c. search numbers)
     (λ c. search numbers) (λ c. search numbers) (λ c. search numbers) (λ c. search numbers) (λ c. search numbers)
-    (λ c. search numbers) (λ c. search numbers) (λ c. search numbers))
+    (λ c. search numbers) (λ c. search numbers) (λ c. search numbers) (λ c. search numbers) (λ c. search numbers))
