@@ -1,6 +1,6 @@
 /*
  * Works the sorting hall at lag 2 for some turns: makes its table, opens a cabin and runs it with reports that come late, overtake each
- * other, are repeated or get lost.
+ * other, are repeated or get lost, one at a time and then in packets.
  */
 #include <stdio.h>
 
@@ -21,6 +21,19 @@ static uint8_t state[LQ_STATE];
 static void hear(size_t index, uint8_t position) {
     uint8_t refusal = lq_observe(table, table_len, state, index, position);
     printf("hear %zu at %u: %u\n", index, position, refusal);
+}
+
+/* Hears all of a packet's reports, or nothing where one is refused. */
+static void hear_packet(const lq_observation *packet, size_t count) {
+    lq_heard heard = lq_observe_all(table, table_len, state, packet, count);
+    for (size_t k = 0; k < count; k++) {
+        printf("%s %zu at %u", k == 0 ? "hear" : ",", packet[k].index, packet[k].position);
+    }
+    if (heard.refusal == 0) {
+        printf(": 0\n");
+    } else {
+        printf(": %u at place %zu\n", heard.refusal, heard.place);
+    }
 }
 
 static void give(void) {
@@ -62,5 +75,12 @@ int main(void) {
     give();
     give(); /* turn 3: index 4 is known already */
     give(); /* turn 4: the report of index 6 is lost */
+    const lq_observation spoilt[2] = {{6, 3}, {4, 1}};
+    hear_packet(spoilt, 2); /* the report of index 4 is too old, and that of index 6 is not heard either */
+    give();
+    const lq_observation mixed[3] = {{8, 0}, {6, 3}, {8, 0}};
+    hear_packet(mixed, 3); /* the report of index 8 overtakes that of index 6, and is repeated */
+    give();
+    give(); /* turn 5: index 8 is known already */
     return 0;
 }

@@ -1,6 +1,8 @@
 //! A cabin written by hand: the same checks on every call, over the caller's bytes, and a state with the same fields.
 use crate::hand::bodies;
+use loquatquoits_tests::cabin::Observation;
 
+#[derive(Clone)]
 pub struct Cabin {
     turn: usize,
     last: [u8; 3],
@@ -52,9 +54,9 @@ impl Cabin {
             && self.window[..window].iter().flatten().all(|&position| position <= table.highest)
     }
 
-    pub fn observe(&mut self, sheet: &[u8], index: usize, position: u8) -> bool {
-        let Some(table) = read(sheet) else { return false };
-        if !self.valid(&table) || position > table.highest || index > 2 * self.turn || index + table.delay < 2 * self.turn {
+    /// A report, where the sheet and the state are not refused.
+    fn hear(&mut self, table: &Table, index: usize, position: u8) -> bool {
+        if position > table.highest || index > 2 * self.turn || index + table.delay < 2 * self.turn {
             return false;
         }
         let slot = &mut self.window[2 * self.turn - index];
@@ -63,6 +65,26 @@ impl Cabin {
         }
         *slot = Some(position);
         true
+    }
+
+    pub fn observe(&mut self, sheet: &[u8], index: usize, position: u8) -> bool {
+        read(sheet).is_some_and(|table| self.valid(&table) && self.hear(&table, index, position))
+    }
+
+    /// A refusal is a record's, by its place, or of no record. The sheet is read and the state tested once for all records.
+    pub fn observe_all(&mut self, sheet: &[u8], packet: &[Observation]) -> Result<(), Option<usize>> {
+        let table = read(sheet).ok_or(None)?;
+        if !self.valid(&table) || packet.len() > 16 {
+            return Err(None);
+        }
+        let before = self.window;
+        for (place, observation) in packet.iter().enumerate() {
+            if !self.hear(&table, observation.index, observation.position) {
+                self.window = before;
+                return Err(Some(place));
+            }
+        }
+        Ok(())
     }
 
     pub fn act(&mut self, sheet: &[u8]) -> Option<u8> {

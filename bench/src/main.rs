@@ -1,5 +1,6 @@
 //! The proved solver against two hand-written versions of the same rounds, and the proved reader, the proved judge and the proved cabin
 //! against hand-written ones, in one run on one machine; with the feature `before`, also against the library of a landing before.
+use loquatquoits_tests::cabin::Observation;
 use loquatquoits_tests::judge::Judgement;
 use loquatquoits_tests::naive::{self, Game, Rule, Verdict};
 use loquatquoits_tests::proved;
@@ -329,64 +330,168 @@ fn judgings() {
     println!();
 }
 
-/// Turns a second over a table: each turn hears the report that is needed and gives the command.
-fn measure_cabin(name: &str, yard: &Yard) {
-    let n = yard.pairs();
-    let (sheet, answer) = proved::make_of(yard, 50_000).unwrap();
-    assert_eq!(answer.losing, None);
-    let delay = yard.delay as usize;
-    let turns = 1_000;
-    // the play against the yard that always makes its first move, worked out once
-    let mut positions = vec![yard.start];
-    let mut commands = Vec::new();
-    let mut state = proved::open(&sheet).unwrap();
-    for i in 0..turns {
-        if 2 * i >= delay {
-            proved::observe(&sheet, &mut state, 2 * i - delay, positions[2 * i - delay]).unwrap();
+/// Some turns against the yard that always makes its first move, worked out once.
+struct Work {
+    sheet: Vec<u8>,
+    delay: usize,
+    positions: Vec<u8>,
+    commands: Vec<u8>,
+}
+
+impl Work {
+    fn new(yard: &Yard, turns: usize) -> Work {
+        let (sheet, answer) = proved::make_of(yard, 50_000).unwrap();
+        assert_eq!(answer.losing, None);
+        let mut state = proved::open(&sheet).unwrap();
+        let mut work = Work { sheet, delay: yard.delay as usize, positions: vec![yard.start], commands: Vec::new() };
+        for i in 0..turns {
+            let command = work.turn_by_proof(&mut state, i);
+            let target = yard.targets.iter().find(|line| line[0] == work.positions[2 * i] && line[1] == command).unwrap()[2];
+            work.positions.extend([target, yard.moves.iter().find(|line| line[0] == target).unwrap()[1]]);
+            work.commands.push(command);
         }
-        let command = proved::act(&sheet, &mut state).unwrap();
-        let target = yard.targets.iter().find(|line| line[0] == positions[2 * i] && line[1] == command).unwrap()[2];
-        positions.extend([target, yard.moves.iter().find(|line| line[0] == target).unwrap()[1]]);
-        commands.push(command);
+        work
     }
+
+    /// Turn i hears the report that is needed and gives the command.
+    fn turn_by_proof(&self, state: &mut [u8; 21], i: usize) -> u8 {
+        if 2 * i >= self.delay {
+            proved::observe(&self.sheet, state, 2 * i - self.delay, self.positions[2 * i - self.delay]).unwrap();
+        }
+        proved::act(&self.sheet, state).unwrap()
+    }
+
+    /// All turns, from opening.
+    fn by_proof(&self) -> [u8; 21] {
+        let mut state = proved::open(&self.sheet).unwrap();
+        for (i, &command) in self.commands.iter().enumerate() {
+            assert_eq!(self.turn_by_proof(&mut state, i), command);
+        }
+        state
+    }
+
+    fn by_hand(&self) -> cabin::Cabin {
+        let mut cabin = cabin::Cabin::open();
+        for (i, &command) in self.commands.iter().enumerate() {
+            if 2 * i >= self.delay {
+                assert!(cabin.observe(&self.sheet, 2 * i - self.delay, self.positions[2 * i - self.delay]));
+            }
+            assert_eq!(cabin.act(&self.sheet), Some(command));
+        }
+        cabin
+    }
+
+    /// So many true reports after the last turn, from the newest index of the window to the oldest and round again.
+    fn packet(&self, length: usize) -> Vec<Observation> {
+        let newest = self.positions.len() - 1;
+        let indices = (0..length).map(|k| newest - k % (self.delay + 1));
+        indices.map(|index| Observation { index, position: self.positions[index] }).collect()
+    }
+}
+
+fn measure_cabin(name: &str, yard: &Yard) {
+    let turns = 1_000;
+    let work = Work::new(yard, turns);
     let [by_proof, by_hand] = compare(
         30,
         [
             &mut || {
-                let mut state = proved::open(&sheet).unwrap();
-                for i in 0..turns {
-                    if 2 * i >= delay {
-                        proved::observe(&sheet, &mut state, 2 * i - delay, positions[2 * i - delay]).unwrap();
-                    }
-                    assert_eq!(proved::act(&sheet, &mut state), Ok(commands[i]));
-                }
+                black_box(work.by_proof());
             },
             &mut || {
-                let mut cabin = cabin::Cabin::open();
-                for i in 0..turns {
-                    if 2 * i >= delay {
-                        assert!(cabin.observe(&sheet, 2 * i - delay, positions[2 * i - delay]));
-                    }
-                    assert_eq!(cabin.act(&sheet), Some(commands[i]));
-                }
+                black_box(work.by_hand());
             },
         ],
     );
     println!(
-        "| {name} | {n} | {:.0} ns | {:.0} ns | {:.2} |",
+        "| {name} | {} | {:.0} ns | {:.0} ns | {:.2} |",
+        yard.pairs(),
         nanoseconds(by_proof, turns),
         nanoseconds(by_hand, turns),
         ratio(by_proof, by_hand),
     );
 }
 
+/// Yards in which cabins are at work.
+fn worked_yards() -> [(&'static str, Yard); 4] {
+    [
+        ("the sorting hall, lag 2", sheets::hall().at(2)),
+        ("the loop, lag 6", sheets::looped().at(6)),
+        ("the longer hall, lag 4", sheets::long_hall().at(4)),
+        ("the largest table", round_about()),
+    ]
+}
+
 fn cabins() {
     println!("| cabin, a turn being a hearing and a giving | pairs | proved | by hand | proved / by hand |");
     println!("|---|---|---|---|---|");
-    measure_cabin("the sorting hall, lag 2", &sheets::hall().at(2));
-    measure_cabin("the loop, lag 6", &sheets::looped().at(6));
-    measure_cabin("the longer hall, lag 4", &sheets::long_hall().at(4));
-    measure_cabin("the largest table", &round_about());
+    for (name, yard) in worked_yards() {
+        measure_cabin(name, &yard);
+    }
+    println!();
+}
+
+/// Both name the same record of a packet where one is too new.
+fn refused_alike(work: &Work, packet: &[Observation]) {
+    for place in 0..packet.len() {
+        let mut other = packet.to_vec();
+        other[place].index += work.delay + 1;
+        assert_eq!(proved::observe_all(&work.sheet, &mut work.by_proof(), &other), Err((18, Some(place))));
+        assert_eq!(work.by_hand().observe_all(&work.sheet, &other), Err(Some(place)));
+    }
+}
+
+/// A packet, each time to the same cabin that has heard nothing of its window: in one call, by hand, and by one single hearing a report.
+fn measure_packet(name: &str, yard: &Yard, length: usize) {
+    let work = Work::new(yard, 10);
+    let (sheet, packet, begun, cabin) = (&work.sheet, work.packet(length), work.by_proof(), work.by_hand());
+    refused_alike(&work, &packet);
+    let packets = 1_000;
+    let [by_proof, by_hand, singly] = compare(
+        30,
+        [
+            &mut || {
+                for _ in 0..packets {
+                    let mut state = black_box(begun);
+                    assert_eq!(proved::observe_all(sheet, &mut state, black_box(&packet)), Ok(()));
+                    black_box(state);
+                }
+            },
+            &mut || {
+                for _ in 0..packets {
+                    let mut cabin = black_box(&cabin).clone();
+                    assert_eq!(cabin.observe_all(sheet, black_box(&packet)), Ok(()));
+                    black_box(cabin);
+                }
+            },
+            &mut || {
+                for _ in 0..packets {
+                    let mut state = black_box(begun);
+                    for observation in black_box(&packet) {
+                        assert_eq!(proved::observe(sheet, &mut state, observation.index, observation.position), Ok(()));
+                    }
+                    black_box(state);
+                }
+            },
+        ],
+    );
+    let [proved, hand, single] = [by_proof, by_hand, singly].map(|time| nanoseconds(time, packets));
+    println!(
+        "| {name} | {} | {length} | {proved:.0} ns | {hand:.0} ns | {:.2} | {single:.0} ns | {:.2} |",
+        yard.pairs(),
+        ratio(by_proof, by_hand),
+        ratio(by_proof, singly),
+    );
+}
+
+fn packets() {
+    println!("| hearing a packet | pairs | reports | proved | by hand | proved / by hand | proved, singly | packet / singly |");
+    println!("|---|---|---|---|---|---|---|---|");
+    for (name, yard) in worked_yards() {
+        for length in [4, 16] {
+            measure_packet(name, &yard, length);
+        }
+    }
 }
 
 fn main() {
@@ -395,6 +500,7 @@ fn main() {
     readings();
     judgings();
     cabins();
+    packets();
     #[cfg(feature = "before")]
     before::before_and_after();
 }

@@ -1,8 +1,9 @@
-//! The cabin from document 01's words: a winning sheet read anew, and a state that remembers every command and every report.
-//! Nothing here is shared with the Rattle code.
+//! The cabin from document 01's words, and its packets from document 02's (W-204): a winning sheet read anew, and a state that remembers
+//! every command and every report. Nothing here is shared with the Rattle code.
 use crate::naive;
 use crate::sheets::house;
 use std::collections::BTreeMap;
+use std::ops::RangeInclusive;
 
 /// A winning sheet, decoded.
 #[derive(Clone, Debug)]
@@ -52,6 +53,12 @@ pub fn read(sheet: &[u8]) -> Result<Table, u8> {
 }
 
 impl Table {
+    /// The table whose S body is this.
+    pub fn new([start, actions, delay, highest]: [u8; 4], words: Vec<u8>, masks: Vec<u8>) -> Table {
+        let place = (19 + words.len(), masks.len());
+        Table { start, actions, delay, highest, words, masks, place }
+    }
+
     fn half(&self) -> usize {
         self.delay as usize / 2
     }
@@ -60,6 +67,26 @@ impl Table {
     pub fn sheet(&self) -> Vec<u8> {
         let header = [self.start, self.actions, self.delay, self.highest];
         house(&[(b'S', &header), (b'W', &self.words), (b'T', &self.masks)])
+    }
+
+    /// The bytes with these of the faults 10 to 12.
+    pub fn faulty_sheet(&self, faults: &[u8]) -> Vec<u8> {
+        let has = |fault: u8| faults.contains(&fault);
+        let mut table = self.clone();
+        if has(12) {
+            table.words.fill(0);
+        }
+        if has(11) {
+            table.words[0] = 2;
+        }
+        let mut sheet = table.sheet();
+        sheet.extend(has(10).then_some(0));
+        sheet
+    }
+
+    /// The indices of the window at turn i: "from 2i - d to 2i", "never below 0".
+    pub fn window(&self, i: usize) -> RangeInclusive<usize> {
+        (2 * i).saturating_sub(self.delay as usize)..=2 * i
     }
 
     /// A first word's command of turn i.
@@ -89,30 +116,67 @@ impl Table {
 
 pub const LAST_TURN: usize = 1_000_000;
 
+/// The record of a report, laid out as C's `lq_observation`.
+#[repr(C)]
+#[derive(Clone, Copy, Debug, PartialEq, Eq)]
+pub struct Observation {
+    pub index: usize,
+    pub position: u8,
+}
+
+/// Of a packet, "the first refusal and, for 16 to 19 only, its place in the list, from 0".
+pub type Refusal = (u8, Option<usize>);
+
+/// Reports heard: positions by index.
+pub type Heard = BTreeMap<usize, u8>;
+
+/// "Hearing a report" at turn i, once it has come to 16.
+fn hear(table: &Table, i: usize, heard: &mut Heard, Observation { index, position }: Observation) -> Result<(), u8> {
+    if position > table.highest {
+        return Err(16);
+    }
+    if index < *table.window(i).start() {
+        return Err(17);
+    }
+    if index > *table.window(i).end() {
+        return Err(18);
+    }
+    if heard.get(&index).is_some_and(|&p| p != position) {
+        return Err(19);
+    }
+    heard.insert(index, position);
+    Ok(())
+}
+
+/// A packet at turn i, once it has come to 22: what is heard after "hearing them singly, first to last", each with the ones before it. It
+/// is worked on a copy, as of a refused packet "nothing is heard".
+fn hear_all(table: &Table, i: usize, heard: &Heard, packet: &[Observation]) -> Result<Heard, Refusal> {
+    if packet.len() > 16 {
+        return Err((22, None));
+    }
+    let mut after = heard.clone();
+    for (place, &observation) in packet.iter().enumerate() {
+        hear(table, i, &mut after, observation).map_err(|number| (number, Some(place)))?;
+    }
+    Ok(after)
+}
+
 /// A cabin that remembers everything.
 #[derive(Clone, Debug, Default)]
 pub struct Cabin {
     pub given: Vec<u8>,
-    pub heard: BTreeMap<usize, u8>,
+    pub heard: Heard,
 }
 
 impl Cabin {
     /// 16 to 19, at the turn after the commands given.
-    pub fn hear(&mut self, table: &Table, index: usize, position: u8) -> Result<(), u8> {
-        let i = self.given.len();
-        if position > table.highest {
-            return Err(16);
-        }
-        if index + (table.delay as usize) < 2 * i {
-            return Err(17);
-        }
-        if index > 2 * i {
-            return Err(18);
-        }
-        if self.heard.get(&index).is_some_and(|&p| p != position) {
-            return Err(19);
-        }
-        self.heard.insert(index, position);
+    pub fn hear(&mut self, table: &Table, observation: Observation) -> Result<(), u8> {
+        hear(table, self.given.len(), &mut self.heard, observation)
+    }
+
+    /// 22, then 16 to 19 per record.
+    pub fn hear_all(&mut self, table: &Table, packet: &[Observation]) -> Result<(), Refusal> {
+        self.heard = hear_all(table, self.given.len(), &self.heard, packet)?;
         Ok(())
     }
 
@@ -145,13 +209,38 @@ impl Bytes<'_> {
         (self.0[7 + 2 * k] != 0).then_some(self.0[8 + 2 * k])
     }
 
+    /// What was heard of the window.
+    pub fn window(&self, table: &Table) -> Heard {
+        let turn = self.turn() as usize;
+        table.window(turn).filter_map(|index| Some((index, self.heard(2 * turn - index)?))).collect()
+    }
+
     /// Refusal 20's reasons, and no other.
     pub fn refused(&self, table: &Table) -> bool {
         let turn = self.turn() as usize;
         let held = (table.delay as usize / 2).min(turn);
-        let window = (table.delay as usize).min(2 * turn);
         turn > LAST_TURN
             || (0..held).any(|k| self.held(k) >= table.actions)
-            || (0..=window).any(|k| self.heard(k).is_some_and(|p| p > table.highest))
+            || self.window(table).values().any(|&position| position > table.highest)
     }
+}
+
+/// W-204 over the bytes of a sheet and of a state: "10 to 12 and 20, then 22 for more than 16, then 16 to 19 per record". Accepted: the
+/// state's bytes after, in which each index that was not heard before has the two bytes of its report, and no other byte changes.
+pub fn observe_all(sheet: &[u8], state: &[u8; 21], packet: &[Observation]) -> Result<[u8; 21], Refusal> {
+    let table = read(sheet).map_err(|number| (number, None))?;
+    let bytes = Bytes(state);
+    if bytes.refused(&table) {
+        return Err((20, None));
+    }
+    let (turn, before) = (bytes.turn() as usize, bytes.window(&table));
+    let mut after = *state;
+    for (index, position) in hear_all(&table, turn, &before, packet)? {
+        if !before.contains_key(&index) {
+            let k = 2 * turn - index;
+            after[7 + 2 * k] = 1;
+            after[8 + 2 * k] = position;
+        }
+    }
+    Ok(after)
 }

@@ -1,7 +1,15 @@
 //! The proved operations, through the C interface of `include/loquatquoits.h`.
+use crate::cabin::{Observation, Refusal};
 use crate::judge::Judgement;
 use crate::naive::Read;
 use crate::sheets::Yard;
+
+/// C's `lq_heard`.
+#[repr(C)]
+struct Heard {
+    refusal: u8,
+    place: usize,
+}
 
 extern "C" {
     fn lq_read(sheet: *const u8, sheet_len: usize, header: *mut u8, places: *mut usize, reached: *mut usize) -> u8;
@@ -31,6 +39,13 @@ extern "C" {
     fn lq_masks(sheet: *const u8, sheet_len: usize, place: *mut usize) -> u8;
     fn lq_open(sheet: *const u8, sheet_len: usize, state: *mut u8) -> u8;
     fn lq_observe(sheet: *const u8, sheet_len: usize, state: *mut u8, index: usize, position: u8) -> u8;
+    fn lq_observe_all(
+        sheet: *const u8,
+        sheet_len: usize,
+        state: *mut u8,
+        observations: *const Observation,
+        count: usize,
+    ) -> Heard;
     fn lq_act(sheet: *const u8, sheet_len: usize, state: *mut u8, action: *mut u8) -> u8;
     fn lq_judge(
         sheet: *const u8,
@@ -176,6 +191,20 @@ pub fn observe(sheet: &[u8], state: &mut [u8; 21], index: usize, position: u8) -
         0 => Ok(()),
         number => Err(number),
     }
+}
+
+/// Nothing, or the refusal of a packet, which must leave the state; a place is given for 16 to 19 only.
+pub fn observe_all(sheet: &[u8], state: &mut [u8; 21], packet: &[Observation]) -> Result<(), Refusal> {
+    let before = *state;
+    let heard =
+        unsafe { lq_observe_all(sheet.as_ptr(), sheet.len(), state.as_mut_ptr(), packet.as_ptr(), packet.len()) };
+    let of_record = (16..=19).contains(&heard.refusal);
+    assert!(of_record || heard.place == 0, "a place {} with {}", heard.place, heard.refusal);
+    if heard.refusal == 0 {
+        return Ok(());
+    }
+    assert_eq!(*state, before, "a refused packet altered the state");
+    Err((heard.refusal, of_record.then_some(heard.place)))
 }
 
 pub fn act(sheet: &[u8], state: &mut [u8; 21]) -> Result<u8, u8> {

@@ -148,9 +148,7 @@ impl Shape {
 pub fn random_yard(random: &mut Random, shape: &Shape) -> Yard {
     let n = shape.own + shape.environment;
     let mut sides: Vec<bool> = (0..n).map(|p| p < shape.own).collect();
-    for p in (1..n).rev() {
-        sides.swap(p, random.below(p + 1));
-    }
+    random.shuffle(&mut sides);
     let own: Vec<u8> = (0..n).filter(|&p| sides[p]).map(|p| p as u8).collect();
     let other: Vec<u8> = (0..n).filter(|&p| !sides[p]).map(|p| p as u8).collect();
     let kinds = (0..n)

@@ -1,5 +1,5 @@
 //! Tables and the cabin against an independent model: made sheets byte by byte, damaged winning sheets, made-up states, and thousands
-//! of lists of calls with late, overtaking, repeated, lost and (outside the window) false reports.
+//! of lists of calls with late, overtaking, repeated, lost and (outside the window) false reports, one at a time and in packets.
 use loquatquoits_tests::cabin::{self, Bytes};
 use loquatquoits_tests::counts::{count, report, Counts};
 use loquatquoits_tests::naive::{self, Game, Rule, Verdict};
@@ -156,15 +156,25 @@ fn made_up_states() {
     report("made-up states", &counts, &[&hearing[..], &giving[..]].concat());
 }
 
-#[test]
-fn lists_of_calls() {
-    let mut random = Random::new(3);
+/// Lists of calls to cabins of many yards, of whose hearings so many in a hundred are packets.
+fn work(seed: u64, packets: usize) -> Counts {
+    let mut random = Random::new(seed);
     let mut counts = Counts::new();
     for _ in 0..3000 {
         let (yard, sheet) = winning(&mut random);
-        working::work(&mut random, &yard, &sheet, &mut counts);
+        working::work(&mut random, &yard, &sheet, packets, &mut counts);
     }
-    report("lists of calls", &counts, &working::WANTED.map(String::from));
+    counts
+}
+
+#[test]
+fn lists_of_calls() {
+    report("lists of calls", &work(3, 0), &working::WANTED.map(String::from));
+}
+
+#[test]
+fn lists_of_calls_with_packets() {
+    report("lists of calls with packets", &work(204, 50), &working::wanted_with_packets());
 }
 
 /// The last turns: 999,999 is given, 1,000,000 is not.

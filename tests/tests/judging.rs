@@ -68,9 +68,7 @@ fn random_table(random: &mut Random, yard: &Yard) -> Table {
 }
 
 fn table_of(yard: &Yard, words: Vec<u8>, masks: Vec<u8>) -> Table {
-    let highest = (yard.kinds.len() - 1) as u8;
-    let place = (19 + words.len(), masks.len());
-    Table { start: yard.start, actions: yard.actions, delay: yard.delay, highest, words, masks, place }
+    Table::new([yard.start, yard.actions, yard.delay, (yard.kinds.len() - 1) as u8], words, masks)
 }
 
 fn pick<'a>(random: &mut Random, bytes: &'a mut [u8]) -> &'a mut u8 {
@@ -266,20 +264,11 @@ fn faulty_sheet(yard: &Yard, faults: &[u8]) -> Vec<u8> {
 }
 
 fn faulty_table(table: &Table, other_start: u8, faults: &[u8]) -> Vec<u8> {
-    let has = |fault: u8| faults.contains(&fault);
     let mut table = table.clone();
-    if has(12) {
-        table.words.fill(0);
-    }
-    if has(11) {
-        table.words[3] = 2;
-    }
-    if has(21) {
+    if faults.contains(&21) {
         table.start = other_start;
     }
-    let mut sheet = table.sheet();
-    sheet.extend(has(10).then_some(0));
-    sheet
+    table.faulty_sheet(faults)
 }
 
 /// Any number of faults at once: the answer is the first in the order written, which is that of the numbers, and a yes where there is none.
@@ -371,9 +360,9 @@ fn any_choice(random: &mut Random, yard: &Yard, table: &Table) {
     });
 }
 
-/// What a yes means: the cabin works by such a table as it does by ours, and so does any choice out of it.
-#[test]
-fn at_work() {
+/// What a yes means: the cabin works by such a table as it does by ours, and so does any choice out of it. Of the cabin's hearings so many
+/// in a hundred are packets.
+fn at_work_with(packets: usize) -> Counts {
     let mut random = Random::new(3);
     let mut counts = Counts::new();
     for round in 0..2000 {
@@ -388,7 +377,7 @@ fn at_work() {
         };
         assert_eq!(words_of(&judged(&yard.sheet(), &table.sheet())), "yes");
         assert_inside(&table, Some(&ours));
-        working::work(&mut random, &yard, &table.sheet(), &mut counts);
+        working::work(&mut random, &yard, &table.sheet(), packets, &mut counts);
         for _ in 0..3 {
             any_choice(&mut random, &yard, &table);
         }
@@ -403,8 +392,23 @@ fn at_work() {
             }
         }
     }
-    let tables = ["commands", "pairs", "first words"].map(|less| format!("a table with fewer {less} than ours"));
-    report("tables of others at work", &counts, &[&working::WANTED.map(String::from)[..], &tables].concat());
+    counts
+}
+
+/// Tables that those at work should be.
+fn wanted_tables() -> [String; 3] {
+    ["commands", "pairs", "first words"].map(|less| format!("a table with fewer {less} than ours"))
+}
+
+#[test]
+fn at_work() {
+    report("tables of others at work", &at_work_with(0), &[&working::WANTED.map(String::from)[..], &wanted_tables()].concat());
+}
+
+#[test]
+fn at_work_with_packets() {
+    let wanted = [&working::wanted_with_packets()[..], &wanted_tables()].concat();
+    report("tables of others at work, with packets", &at_work_with(50), &wanted);
 }
 
 /// As many pairs as there may be: our table, one without its last pair's mask, and one with a mask at the last pair of the wrong side.
