@@ -15,64 +15,26 @@ use Rattle.controller.specs.code.Ages.{ageWith}
 use Rattle.controller.specs.Controller.{observeWith, obey, nextAction, neededKnown, actWith, observeAnswer}
 use Rattle.state.specs.declared.state.State.{State}
 
-module _ (x : TableSheet) (s : State) (k p : ℕ) where
-  pub observe-20 : stateOk x s ≡ false → observeWith x s k p ≡ refused 20
-  unfolding observeWith
-  observe-20 bad = check-failed _ 20 _ bad
+-- where a report goes, by its age; n is the newest index
 
-  module _ (good : stateOk x s ≡ true) where
-    pub observe-16 : x .highest < p → observeWith x s k p ≡ refused 16
-    unfolding observeWith
-    observe-16 h = check-passed _ 20 _ good ∙ check-failed _ 16 _ (lt-leb p (x .highest) h)
+module _ (highest d n k p : ℕ) where
+  pub age-16 : highest < p → ageWith highest d n k p ≡ refused 16
+  unfolding ageWith
+  age-16 h = check-failed _ 16 _ (lt-leb p highest h)
 
-    pub observe-17 : p ≤ x .highest → k + x .delay < 2 * s .turn → observeWith x s k p ≡ refused 17
-    unfolding observeWith
-    observe-17 h l =
-        check-passed _ 20 _ good ∙ check-passed _ 16 _ (le-leb p (x .highest) h)
-        ∙ check-failed _ 17 _ (lt-leb (2 * s .turn) (k + x .delay) l)
+  module _ (h : p ≤ highest) where
+    pub age-17 : k + d < n → ageWith highest d n k p ≡ refused 17
+    unfolding ageWith
+    age-17 o = check-passed _ 16 _ (le-leb p highest h) ∙ check-failed _ 17 _ (lt-leb n (k + d) o)
 
-    pub observe-18 : p ≤ x .highest → 2 * s .turn < k → observeWith x s k p ≡ refused 18
-    unfolding observeWith
-    observe-18 h u =
-        check-passed _ 20 _ good ∙ check-passed _ 16 _ (le-leb p (x .highest) h)
-        ∙ check-passed _ 17 _ (le-leb (2 * s .turn) (k + x .delay) (omega arith))
-        ∙ check-failed _ 18 _ (lt-leb k (2 * s .turn) u)
+    pub age-18 : n < k → ageWith highest d n k p ≡ refused 18
+    unfolding ageWith
+    age-18 u =
+        check-passed _ 16 _ (le-leb p highest h) ∙ check-passed _ 17 _ (le-leb n (k + d) (omega arith)) ∙ check-failed _ 18 _ (lt-leb k n u)
 
-    module _ (h : p ≤ x .highest) (l : 2 * s .turn ≤ k + x .delay) (u : k ≤ 2 * s .turn) where
-      pub observe-19 : agrees (slotAt s (2 * s .turn - k)) p ≡ false → observeWith x s k p ≡ refused 19
-      unfolding observeWith
-      observe-19 a =
-          check-passed _ 20 _ good ∙ check-passed _ 16 _ (le-leb p (x .highest) h)
-          ∙ check-passed _ 17 _ (le-leb (2 * s .turn) (k + x .delay) l)
-          ∙ check-passed _ 18 _ (le-leb k (2 * s .turn) u)
-          ∙ check-failed _ 19 _ a
-
-      pub observe-accepts : agrees (slotAt s (2 * s .turn - k)) p ≡ true → observeWith x s k p ≡ accepted (observed s k p)
-      unfolding observeWith
-      observe-accepts a =
-          check-passed _ 20 _ good ∙ check-passed _ 16 _ (le-leb p (x .highest) h)
-          ∙ check-passed _ 17 _ (le-leb (2 * s .turn) (k + x .delay) l)
-          ∙ check-passed _ 18 _ (le-leb k (2 * s .turn) u)
-          ∙ check-passed _ 19 _ a
-
--- by the report's age
-
-three-checks : {A B : Type 0} (a b c : Bool) (m : A) (f : A → Answer B)
-    → check a 16 (check b 17 (check c 18 (f m))) ≡ onAccepted (check a 16 (check b 17 (check c 18 (accepted m)))) f
-unfolding check onAccepted
-three-checks true true true m f = refl
-three-checks true true false m f = refl
-three-checks true false c m f = refl
-three-checks false b c m f = refl
-
-module _ (x : TableSheet) (s : State) (k p : ℕ) where
-  pub observe-aged : stateOk x s ≡ true
-      → observeWith x s k p
-      ≡ onAccepted (ageWith (x .highest) (x .delay) (2 * s .turn) k p) (λ age. check (agrees (slotAt s age) p) 19 (accepted (observed s k p)))
-  unfolding observeWith ageWith
-  observe-aged good =
-      check-passed _ 20 _ good
-      ∙ three-checks _ _ _ (2 * s .turn - k) (λ age. check (agrees (slotAt s age) p) 19 (accepted (observed s k p)))
+    pub age-at : n ≤ k + d → k ≤ n → ageWith highest d n k p ≡ accepted (n - k)
+    unfolding ageWith
+    age-at l u = check-passed _ 16 _ (le-leb p highest h) ∙ check-passed _ 17 _ (le-leb n (k + d) l) ∙ check-passed _ 18 _ (le-leb k n u)
 
 pub age-accepted : (highest d n k p age : ℕ) → ageWith highest d n k p ≡ accepted age → (age ≡ n - k) × (age ≤ d)
 unfolding ageWith
@@ -82,6 +44,49 @@ age-accepted highest d n k p age e =
     let f = check-accepted _ 18 _ (b .1) in
     let g : n - k ≡ age = accepted-same (f .1) in
     (sym g, omega (arith, leb-true n (k + d) (b .0)))
+
+three-checks : {A B : Type 0} (a b c : Bool) (m : A) (f : A → Answer B)
+    → check a 16 (check b 17 (check c 18 (f m))) ≡ onAccepted (check a 16 (check b 17 (check c 18 (accepted m)))) f
+unfolding check onAccepted
+three-checks true true true m f = refl
+three-checks true true false m f = refl
+three-checks true false c m f = refl
+three-checks false b c m f = refl
+
+-- observing, by the report's age
+
+abbrev pub observedAt : State → ℕ → ℕ → Answer ℕ → Answer State
+observedAt s k p a = onAccepted a (λ age. check (agrees (slotAt s age) p) 19 (accepted (observed s k p)))
+
+module _ (x : TableSheet) (s : State) (k p : ℕ) where
+  pub observe-20 : stateOk x s ≡ false → observeWith x s k p ≡ refused 20
+  unfolding observeWith
+  observe-20 bad = check-failed _ 20 _ bad
+
+  module _ (good : stateOk x s ≡ true) where
+    pub observe-aged : observeWith x s k p ≡ observedAt s k p (ageWith (x .highest) (x .delay) (2 * s .turn) k p)
+    unfolding observeWith ageWith
+    observe-aged =
+        check-passed _ 20 _ good
+        ∙ three-checks _ _ _ (2 * s .turn - k) (λ age. check (agrees (slotAt s age) p) 19 (accepted (observed s k p)))
+
+    pub observe-16 : x .highest < p → observeWith x s k p ≡ refused 16
+    unfolding onAccepted
+    observe-16 h = observe-aged ∙ ap (observedAt s k p) (age-16 (x .highest) (x .delay) (2 * s .turn) k p h)
+
+    pub observe-17 : p ≤ x .highest → k + x .delay < 2 * s .turn → observeWith x s k p ≡ refused 17
+    unfolding onAccepted
+    observe-17 h l = observe-aged ∙ ap (observedAt s k p) (age-17 (x .highest) (x .delay) (2 * s .turn) k p h l)
+
+    pub observe-18 : p ≤ x .highest → 2 * s .turn < k → observeWith x s k p ≡ refused 18
+    unfolding onAccepted
+    observe-18 h u = observe-aged ∙ ap (observedAt s k p) (age-18 (x .highest) (x .delay) (2 * s .turn) k p h u)
+
+    pub observe-accepts : p ≤ x .highest → 2 * s .turn ≤ k + x .delay → k ≤ 2 * s .turn → agrees (slotAt s (2 * s .turn - k)) p ≡ true
+        → observeWith x s k p ≡ accepted (observed s k p)
+    unfolding onAccepted
+    observe-accepts h l u a =
+        observe-aged ∙ ap (observedAt s k p) (age-at (x .highest) (x .delay) (2 * s .turn) k p h l u) ∙ check-passed _ 19 _ a
 
 -- what an accepted observation has passed
 pub record Observable (x : TableSheet) (s : State) (k p : ℕ) : Type 0 where

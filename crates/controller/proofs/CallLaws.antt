@@ -11,7 +11,7 @@ use lib.ListN.{getD, set, take}
 use mir.Syntax.{w64}
 use mir.Val.{Fits}
 use borrow.Author.Needs.{needs}
-use borrow.Author.Tests.{leb-true, lt-leb, le-leb, lt-ltb, le-ltb, not-true, not-false}
+use borrow.Author.Tests.{leb-true, lt-ltb, le-ltb, not-true, not-false}
 use Rattle.theory.specs.Fold.{either}
 use Rattle.theory.specs.Answer.{Answer, refused, accepted, check, onAccepted}
 use Rattle.theory.specs.Words.{digit}
@@ -45,7 +45,7 @@ use Rattle.controller.specs.declared.calls.Decision.the-variants.{Accept
 use Rattle.controller.specs.declared.calls.Step.{Step}
 use Rattle.state.specs.declared.state.Slot.{Slot}
 use Rattle.state.specs.declared.state.State.{State}
-use Rattle.controller.proofs.Answers.{observe-20, observe-aged, age-accepted, act-20, act-15, act-13, act-14, act-answers}
+use Rattle.controller.proofs.Answers.{age-16, age-17, age-18, age-at, age-accepted, observedAt, observe-20, observe-aged, act-20, act-15, act-13, act-14, act-answers}
 
 -- a step
 
@@ -78,26 +78,18 @@ module _ (highest d n k p : ℕ) where
   age = ageWith highest d n k p
 
   pub aged-16 : highest < p → refused 16 ≡ age
-  unfolding ageWith
-  aged-16 h = sym (check-failed _ 16 _ (lt-leb p highest h))
+  aged-16 h = sym (age-16 highest d n k p h)
 
   module _ (h : p ≤ highest) where
     pub aged-18 : n < k → refused 18 ≡ age
-    unfolding ageWith
-    aged-18 u =
-        sym
-        (check-passed _ 16 _ (le-leb p highest h) ∙ check-passed _ 17 _ (le-leb n (k + d) (omega arith)) ∙ check-failed _ 18 _ (lt-leb k n u))
+    aged-18 u = sym (age-18 highest d n k p h u)
 
     module _ (u : k ≤ n) (v : ℕ) (ev : v ≡ d) where
       pub aged-17 : v < n - k → refused 17 ≡ age
-      unfolding ageWith
-      aged-17 o = sym (check-passed _ 16 _ (le-leb p highest h) ∙ check-failed _ 17 _ (lt-leb n (k + d) (omega arith)))
+      aged-17 o = sym (age-17 highest d n k p h (omega arith))
 
       pub aged-at : n - k ≤ v → accepted (n - k) ≡ age
-      unfolding ageWith
-      aged-at o =
-          sym
-          (check-passed _ 16 _ (le-leb p highest h) ∙ check-passed _ 17 _ (le-leb n (k + d) (omega arith)) ∙ check-passed _ 18 _ (le-leb k n u))
+      aged-at o = sym (age-at highest d n k p h (omega arith) u)
 
 pub ruleset age-laws = (needs, aged-16, aged-18, aged-17, aged-at)
 
@@ -122,22 +114,18 @@ module _ (l : TableLayout) (s : State) (k p : ℕ) (r : Step) (b : Bool) (e : b 
   observed-20 g f = ap stepMeans f ∙ ap (afterObserving s) (sym (observe-20 (says l [] []) s k p (failed e g)))
 
   module _ (g : not b ≡ false) (y : Aged) (ey : agedMeans y ≡ ageWith (l .highest) (l .delay) (2 * s .turn) k p) where
-    by-age : answer ≡ onAccepted (agedMeans y) (λ age. check (agrees (slotAt s age) p) 19 (accepted (observed s k p)))
-    by-age =
-        observe-aged (says l [] []) s k p (passed e g)
-        ∙ ap (λ a. onAccepted a (λ age. check (agrees (slotAt s age) p) 19 (accepted (observed s k p)))) (sym ey)
+    by-age : answer ≡ observedAt s k p (agedMeans y)
+    by-age = observe-aged (says l [] []) s k p (passed e g) ∙ ap (observedAt s k p) (sym ey)
 
     pub observed-nowhere : (n : Refusal) → y ≡ aged.Refused n → r ≡ step (Refused n) s → stepMeans r ≡ afterObserving s answer
     unfolding onAccepted
     observed-nowhere n ay f =
-        ap stepMeans f
-        ∙ ap (afterObserving s)
-        (sym (by-age ∙ ap (λ y. onAccepted (agedMeans y) (λ age. check (agrees (slotAt s age) p) 19 (accepted (observed s k p)))) ay))
+        ap stepMeans f ∙ ap (afterObserving s) (sym (by-age ∙ ap (λ y. observedAt s k p (agedMeans y)) ay))
 
     module _ (age : ℕ) (ay : y ≡ aged.At age) where
       at-age : answer ≡ check (agrees (getD (s .window) age unknown) p) 19 (accepted (observed s k p))
       unfolding onAccepted slotAt
-      at-age = by-age ∙ ap (λ y. onAccepted (agedMeans y) (λ age. check (agrees (slotAt s age) p) 19 (accepted (observed s k p)))) ay
+      at-age = by-age ∙ ap (λ y. observedAt s k p (agedMeans y)) ay
 
       module _ (a : Bool) (ea : a ≡ agrees (getD (s .window) age unknown) p) where
         pub observed-19 : not a ≡ true → r ≡ step (Refused refusal.Contradiction) s → stepMeans r ≡ afterObserving s answer

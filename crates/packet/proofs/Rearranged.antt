@@ -309,7 +309,8 @@ module _ (x : TableSheet) (short : x .delay ≤ mostDelay) where
       (r .0, (r .1, subst (λ b. EachAccepted x b later c) (r .2) (h .1 .1)))
   each-rearranged (List·Permᴰ·trans d g) b long c h = each-rearranged g b long c (each-rearranged d b long c h)
 
-pub rearranged-length : {os qs : List Observation} → List·Permᴰ os qs → length os ≡ length qs
+-- the library has it over its own numbers
+pub rearranged-length : {A : Type 0} {os qs : List A} → List·Permᴰ os qs → length os ≡ length qs
 rearranged-length List·Permᴰ·nil = refl
 rearranged-length (List·Permᴰ·cons e d) = ap suc (rearranged-length d)
 rearranged-length (List·Permᴰ·swap e f) = refl
