@@ -3,6 +3,8 @@ use mathlib.Core.Path.{_≡_, refl}
 use mathlib.Core.List.{map}
 use Rattle.theory.specs.Reach.{reached}
 use Rattle.theory.specs.Judging.{ruling}
+use Rattle.theory.specs.Closing.{post}
+use Rattle.theory.specs.cases.Notices.{forked, notices}
 use Rattle.theory.specs.cases.Tables.{judgings}
 use Rattle.theory.specs.cases.Games.{targetFrom, movesFrom, gameFrom, resultBy, resultOf, passing, chosen, slow, chained, turned, cases, cut, reachedGames, reachedNumbers}
 use Rattle.theory.proofs.Computing.{theory-computes}
@@ -18,3 +20,7 @@ reached-met = refl
 pub judgings-met : map (λ j. ruling passing (j .delay) (j .table)) judgings ≡ map (λ j. j .answer) judgings
 unfolding theory-computes targetFrom movesFrom gameFrom passing judgings
 judgings-met = refl
+
+pub notices-met : map (λ n. post (n .game) (n .delay) (n .closed) (n .table)) notices ≡ map (λ n. n .left) notices
+unfolding theory-computes targetFrom movesFrom gameFrom passing forked notices
+notices-met = refl

@@ -11,6 +11,7 @@ use Rattle.theory.specs.Delay.{odd, words, initialWords, onRight, withWo
 use Rattle.theory.specs.Delay.{goodFrom, goodWith, winning, flagBy, flags, answerBy, answer}
 use Rattle.theory.specs.Table.{ours, flagged, lacks, has, bit, allows}
 use Rattle.theory.specs.Judging.{wordOk, actionOk, nodeOk, ruling}
+use Rattle.theory.specs.Closing.{listed, openIn, close, part, within, post}
 use Rattle.theory.specs.Exact.{leastFlagged, lowestIn, actionAt, arrive, advance, turnBy, playBy, exactChoice, exact, worked}
 use Rattle.theory.specs.Reach.{isTarget, leads, markIn, marksAfter, reached}
 
@@ -54,6 +55,10 @@ unfoldable pub judging-computes : Bool
 unfolding wordOk actionOk nodeOk ruling
 judging-computes = true
 
+unfoldable pub closing-computes : Bool
+unfolding listed openIn close part within post
+closing-computes = true
+
 unfoldable pub exact-computes : Bool
 unfolding leastFlagged lowestIn actionAt arrive advance turnBy playBy exactChoice exact worked
 exact-computes = true
@@ -63,5 +68,5 @@ unfolding isTarget leads markIn marksAfter reached
 reach-computes = true
 
 unfoldable pub theory-computes : Bool
-unfolding folds-compute answers-compute buffers-compute bytes-compute words-compute plays-compute rounds-compute delays-compute tables-compute judging-computes exact-computes reach-computes
+unfolding folds-compute answers-compute buffers-compute bytes-compute words-compute plays-compute rounds-compute delays-compute tables-compute judging-computes closing-computes exact-computes reach-computes
 theory-computes = true

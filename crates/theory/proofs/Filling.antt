@@ -7,6 +7,7 @@ use native.Mathlib.Omega.{arith}
 use lib.ListN.{length, getD, drop, set, length-append, length-drop, length-set, drop-of-length-le, List·getD-append}
 use lib.Seq.{getD-drop, getD-append-add, getD-set-same, getD-set-other, ext-getD}
 use Rattle.theory.specs.Fold.{tabulate}
+use Rattle.theory.specs.Buffer.{over}
 use Rattle.theory.proofs.Fold.{below?, length-tabulate, getD-tabulate, tabulate-zero}
 
 -- l with its first k entries replaced by f 0, f 1, ..
@@ -72,6 +73,11 @@ module _ (f : ℕ → ℕ) (l : List ℕ) where
       (λ j b. ap (λ (x : List ℕ). getD x j 0) e ∙ filled-below k j b)
       (ap (λ (x : List ℕ). getD x k 0) e ∙ filled-above k k (omega arith) ∙ q)
       (λ j b. ap (λ (x : List ℕ). getD x j 0) e ∙ filled-above k j (omega arith))
+
+  -- what stands at the front of the list then
+  pub filled-over : (n : ℕ) → filled f n l ≡ over (tabulate f 0 n) l
+  unfolding filled over
+  filled-over n = rw (length-tabulate f 0 n)
 
   -- the loop is over
   pub filled-done : (k n : ℕ) {m : List ℕ} → m ≡ filled f k l → length l ≡ n → k ≤ n → n ≤ k → m ≡ tabulate f 0 n

@@ -70,6 +70,11 @@ unfolding either
 either-cases true b e = inl refl
 either-cases false b e = inr e
 
+pub either-false : (a b : Bool) → either a b ≡ false → (a ≡ false) × (b ≡ false)
+unfolding either
+either-false true b e = absurd (true≢false e)
+either-false false b e = (refl, e)
+
 pub either-none : (a b : Bool) → a ≡ false → b ≡ false → either a b ≡ false
 unfolding either
 either-none a b p q = rw p q
@@ -133,6 +138,14 @@ below? m n = ⊎-elim (λ e. inl (ltb-true m n e)) (λ e. inr (ltb-false m n e))
 
 pub same? : (m n : ℕ) → (m ≡ n) ⊎ (m ≡ n → ⊥)
 same? m n = ⊎-elim (λ e. inl (eqb-true m n e)) (λ e. inr (eqb-false m n e)) (bool (eqb m n))
+
+-- an entry of a list after a store: the stored one, or the old one
+pub stored : (l : List ℕ) (i v j : ℕ) → i < length l → ((j ≡ i) × (getD (set l i v) j 0 ≡ v)) ⊎ ((j ≡ i → ⊥) × (getD (set l i v) j 0 ≡ getD l j 0))
+stored l i v j h =
+    ⊎-elim
+    (λ (e : j ≡ i). inl (e, rw e (getD-set-same l i v 0 h)))
+    (λ d. inr (d, getD-set-other l i j v 0 d))
+    (same? j i)
 
 pub all-at : (p : ℕ → Bool) (n : ℕ) → allBelow p n ≡ true → (i : ℕ) → i < n → p i ≡ true
 all-at p zero e i h = absurd (omega arith)

@@ -34,6 +34,10 @@ bit-high m n c l h = rw (div-eq-of-lt (lt-of-lt-of-le l (pow-mono h)))
 pub zero-bit : (c : ℕ) → bit 0 c ≡ false
 zero-bit c = bit-high 0 0 c (omega arith) (omega arith)
 
+-- a mask with a bit is not 0
+pub bit-some : (m c : ℕ) → bit m c ≡ true → m ≡ 0 → ⊥
+bit-some m c e z = not-both e (ap (λ x. bit x c) z ∙ zero-bit c)
+
 pub low-true : (m : ℕ) → bit m 0 ≡ true → m % 2 ≡ 1
 low-true m e = eqb-true (m % 2) 1 (sym (bit-zero m) ∙ e)
 
@@ -50,6 +54,16 @@ bits-ext zero a b h l f = omega arith
 bits-ext (suc n) a b h l f =
     let rest : (c : ℕ) → c < n → bit (a / 2) c ≡ bit (b / 2) c = λ c k. sym (bit-suc a c) ∙ f (suc c) (omega arith) ∙ bit-suc b c in
     omega (arith, bits-ext n (a / 2) (b / 2) (omega arith) (omega arith) rest, same-low a b (f 0 (omega arith)))
+
+-- one whose bits the other has too is not greater
+pub bits-le : (n a b : ℕ) → a ≤ n → ((c : ℕ) → bit a c ≡ true → bit b c ≡ true) → a ≤ b
+bits-le zero a b h f = omega arith
+bits-le (suc n) a b h f =
+    let rest = bits-le n (a / 2) (b / 2) (omega arith) (λ c e. sym (bit-suc b c) ∙ f (suc c) (bit-suc a c ∙ e)) in
+    ⊎-elim
+    (λ (e : bit a 0 ≡ true). omega (arith, rest, low-true b (f 0 e)))
+    (λ (e : bit a 0 ≡ false). omega (arith, rest, low-false a e))
+    (bool (bit a 0))
 
 -- a mask that is not 0 has a bit
 pub some-bit : (m n : ℕ) → m < 2 ^ n → (m ≡ 0 → ⊥) → (c : ℕ) × (c < n) × (bit m c ≡ true)
@@ -120,7 +134,7 @@ mask-same p q n f =
     bits-ext n _ _ (mask-lt p n) (mask-lt q n) (λ c h. mask-bit p n c h ∙ f c h ∙ sym (mask-bit q n c h))
 
 pub mask-some : (p : ℕ → Bool) (n c : ℕ) → c < n → p c ≡ true → maskBelow p n ≡ 0 → ⊥
-mask-some p n c h e z = not-both e (sym (mask-bit p n c h) ∙ ap (λ (m : ℕ). bit m c) z ∙ zero-bit c)
+mask-some p n c h e z = bit-some (maskBelow p n) c (mask-bit p n c h ∙ e) z
 
 -- c is the lowest of A actions that the mask m allows
 pub record Lowest (A m c : ℕ) : Type 0 where

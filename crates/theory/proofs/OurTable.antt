@@ -1,62 +1,39 @@
 -- Our own table: it fits, it is judged, every judged table lies inside it, and a strategy wins exactly if it keeps to it.
 -- Assumes nothing.
 use Prim.Native.Nat.{ℕ, _≤_, _<_}
-use mathlib.Core.Path.{_≡_, _∙_}
-use mathlib.Core.Bool.{Bool, true, false, cond}
+use mathlib.Core.Path.{_≡_, refl}
+use mathlib.Core.Bool.{Bool, true, false}
 use mathlib.Core.Logic.{_↔_, ⊎-elim}
 use mathlib.Core.List.{List·Memᴰ}
-use native.Mathlib.Omega.{arith}
-use lib.ListN.{getD, List·getD-eq-default}
+use lib.ListN.{List·getD-eq-default}
+use Rattle.theory.specs.Fold.{both}
 use Rattle.theory.specs.Game.{Game, Target, to, Legal}
 use Rattle.theory.specs.Strategy.{Strategy, Wins}
-use Rattle.theory.specs.Rounds.{Closed, spoiltBy, fell, finalRanks, kept, masks}
-use Rattle.theory.specs.Delay.{initialWords, arena, goodWith, flagBy, flags}
-use Rattle.theory.specs.Table.{Table, ours, flagged, lacks, has, allows, Fits, Judged, Inside, node, Obeys}
-use Rattle.theory.proofs.Fold.{bool, not-both, below?, length-tabulate, getD-tabulate, getD-tabulate-out}
-use Rattle.theory.proofs.Masks.{bit-high, some-bit}
+use Rattle.theory.specs.Rounds.{spoiltBy, fell, finalRanks, kept}
+use Rattle.theory.specs.Delay.{initialWords, arena, goodWith, flags}
+use Rattle.theory.specs.Table.{Table, ours, flagged, allows, Fits, Judged, Inside, node, Obeys}
+use Rattle.theory.specs.Closing.{part}
+use Rattle.theory.proofs.Fold.{below?}
 use Rattle.theory.proofs.Rounds.{unspoilt, unspoilt-outcome}
-use Rattle.theory.proofs.Region.{Allowed, kept-right, kept-stood, kept-is, region-safe, region-largest, length-masks, mask-bound, allowed, allows-unspoilt, region-mask, mask-region}
+use Rattle.theory.proofs.Region.{Allowed, kept-stood, kept-is, allowed, allows-unspoilt}
+use Rattle.theory.proofs.Standing.{bit-action}
 use Rattle.theory.proofs.Correctness.{Seen, seen-node, given-unspoilt, reached-kept, initial-good}
-use Rattle.theory.proofs.Tables.{has-mask, mask-has, has-lacks, allows-has, step-legal, good-more, judged-outcome, obeys-wins}
+use Rattle.theory.proofs.Tables.{flagged-flag, step-legal, obeys-wins}
+use Rattle.theory.proofs.Part.{fits-sized, part-flagged, flagged-part, part-fits, part-judged, part-largest}
 
 module _ (G : Game) (d : ℕ) where
-  -- the W flags
-  flag-is : (v : ℕ) → v < initialWords G d → getD (flags G d) v 0 ≡ cond (goodWith G d (finalRanks (arena G d)) v) 1 0
-  unfolding flags flagBy
-  flag-is v h = getD-tabulate (flagBy (goodWith G d (finalRanks (arena G d)))) (initialWords G d) v 0 h
-
-  flag-out : (v : ℕ) → initialWords G d ≤ v → getD (flags G d) v 0 ≡ 0
-  unfolding flags
-  flag-out v h = getD-tabulate-out (flagBy (goodWith G d (finalRanks (arena G d)))) (initialWords G d) v 0 h
+  -- it is what the rounds leave of all words and actions
+  ours-part : ours G d ≡ part G d (λ v. true) (λ k c. true)
+  unfolding ours flags goodWith part both
+  ours-part = refl
 
   pub good-flagged : (v : ℕ) → v < initialWords G d → goodWith G d (finalRanks (arena G d)) v ≡ true → flagged (ours G d) v ≡ true
-  unfolding flagged ours
-  good-flagged v h e = let f : getD (flags G d) v 0 ≡ 1 = flag-is v h ∙ rw e in rw f
+  unfolding goodWith
+  good-flagged v h e = rw ours-part (flagged-part G d (λ v. true) (λ k c. true) v h refl e)
 
   pub flagged-good : (v : ℕ) → flagged (ours G d) v ≡ true → (v < initialWords G d) × (goodWith G d (finalRanks (arena G d)) v ≡ true)
-  unfolding flagged ours
-  flagged-good v f =
-      ⊎-elim
-      (λ (h : v < initialWords G d). (
-        h,
-        ⊎-elim
-            (λ (e : goodWith G d (finalRanks (arena G d)) v ≡ true). e)
-            (λ (e : goodWith G d (finalRanks (arena G d)) v ≡ false).
-            let z : getD (flags G d) v 0 ≡ 0 = flag-is v h ∙ rw e in
-            absurd (not-both f (rw z)))
-            (bool (goodWith G d (finalRanks (arena G d)) v)),
-      ))
-      (λ (h : initialWords G d ≤ v). absurd (not-both f (rw (flag-out v h))))
-      (below? v (initialWords G d))
-
-  -- the masks
-  pub ours-kept : (k : ℕ) → k < arena G d .nodes → kept (arena G d) (finalRanks (arena G d)) k ≡ true → has (ours G d) k ≡ true
-  unfolding ours
-  ours-kept k h e = mask-has (ours G d) k (region-mask (arena G d) k h e)
-
-  pub kept-ours : (k : ℕ) → k < arena G d .nodes → has (ours G d) k ≡ true → kept (arena G d) (finalRanks (arena G d)) k ≡ true
-  unfolding ours
-  kept-ours k h e = mask-region (arena G d) k h (has-mask (ours G d) k e)
+  unfolding goodWith
+  flagged-good v f = let t = part-flagged G d (λ v. true) (λ k c. true) v (rw ours-part at f) in (t .0, t .2)
 
   pub ours-allowed : (k c : ℕ) → allows (ours G d) k c ≡ true → Allowed (arena G d) k c
   unfolding allows ours
@@ -66,58 +43,21 @@ module _ (G : Game) (d : ℕ) where
   unfolding allows ours
   allowed-ours k c a = allows-unspoilt (arena G d) k c a
 
-  flag-small : (v : ℕ) → getD (flags G d) v 0 ≤ 1
-  flag-small v =
-      ⊎-elim
-      (λ (h : v < initialWords G d).
-      ⊎-elim
-      (λ (e : goodWith G d (finalRanks (arena G d)) v ≡ true). let f : getD (flags G d) v 0 ≡ 1 = flag-is v h ∙ rw e in omega arith)
-      (λ (e : goodWith G d (finalRanks (arena G d)) v ≡ false). let f : getD (flags G d) v 0 ≡ 0 = flag-is v h ∙ rw e in omega arith)
-      (bool (goodWith G d (finalRanks (arena G d)) v)))
-      (λ (h : initialWords G d ≤ v). let f = flag-out v h in omega arith)
-      (below? v (initialWords G d))
-
   pub ours-fits : Fits G d (ours G d)
-  unfolding ours flags arena
-  ours-fits =
-      record {
-        flags-length = length-tabulate _ 0 (initialWords G d);
-        flags-small = flag-small;
-        masks-length = length-masks (arena G d);
-        masks-small = mask-bound (arena G d);
-      }
+  ours-fits = rw ours-part (part-fits G d (λ v. true) (λ k c. true))
 
-  -- what a table that fits flags and allows are words, nodes and actions
+  -- what a table that fits flags and allows are words and actions
   module _ (T : Table) (fits : Fits G d T) where
     pub flagged-word : (v : ℕ) → flagged T v ≡ true → v < initialWords G d
-    unfolding flagged
     flagged-word v e =
         ⊎-elim
         (λ (h : v < initialWords G d). h)
-        (λ (h : initialWords G d ≤ v).
-        let z : getD (T .flags) v 0 ≡ 0 = List·getD-eq-default (T .flags) 0 (rw (fits .flags-length) h) in
-        absurd (not-both e (rw z)))
+        (λ (h : initialWords G d ≤ v). absurd (flagged-flag T v e (List·getD-eq-default (T .flags) 0 (rw (fits .flags-length) h))))
         (below? v (initialWords G d))
 
-    pub has-node : (k : ℕ) → has T k ≡ true → k < arena G d .nodes
-    has-node k e =
-        ⊎-elim
-        (λ (h : k < arena G d .nodes). h)
-        (λ (h : arena G d .nodes ≤ k).
-        absurd (has-mask T k e (List·getD-eq-default (T .masks) 0 (rw (fits .masks-length) h))))
-        (below? k (arena G d .nodes))
-
     pub allows-action : (k c : ℕ) → allows T k c ≡ true → c < G .actions
-    unfolding allows
-    allows-action k c e =
-        ⊎-elim
-        (λ (h : c < G .actions). h)
-        (λ (h : G .actions ≤ c). absurd (not-both e (bit-high (getD (T .masks) k 0) (G .actions) c (fits .masks-small k) h)))
-        (below? c (G .actions))
-
-    pub has-action : (k : ℕ) → has T k ≡ true → (c : ℕ) × (c < G .actions) × (allows T k c ≡ true)
-    unfolding allows
-    has-action k e = some-bit (getD (T .masks) k 0) (G .actions) (fits .masks-small k) (has-mask T k e)
+    unfolding allows arena
+    allows-action k c e = bit-action (arena G d) (T .masks) (fits-sized G d T fits) k c e
 
 module _ (G : Game) (legal : Legal G) (d : ℕ) where
   abbrev region : ℕ → Bool
@@ -157,70 +97,15 @@ module _ (G : Game) (legal : Legal G) (d : ℕ) where
 
   -- our own table is judged
   pub ours-judged : Judged G d (ours G d)
-  unfolding goodWith
-  ours-judged =
-      record {
-        words =
-            λ v h f.
-            good-more G legal d (kept (arena G d) (finalRanks (arena G d))) (has (ours G d)) v h (ours-kept G d)
-            (flagged-good G d v f .1);
-        right = λ k h e. kept-right (arena G d) (finalRanks (arena G d)) k (kept-ours G d k h e);
-        safe = λ k h e. region-safe (arena G d) k h (kept-ours G d k h e);
-        unspoilt = λ k c h l e. unspoilt (arena G d) (lacks (ours G d)) k c (inside k c e);
-      }
-    where
-      inside : (k c : ℕ) → allows (ours G d) k c ≡ true → (o : Target) → List·Memᴰ o (arena G d .step k c)
-          → (k′ : ℕ) × (o ≡ to k′) × (lacks (ours G d) k′ ≡ false)
-      inside k c e o i =
-          let x = unspoilt-outcome (arena G d) (fell (finalRanks (arena G d))) k c (ours-allowed G d k c e .unspoilt) i in
-          let l = step-legal G legal d k c (x .0) (rw (x .1) at i) in (
-            x .0,
-            x .1,
-            has-lacks (ours G d) (x .0)
-                (ours-kept G d (x .0) (l .0) (kept-is (arena G d) (finalRanks (arena G d)) (x .0) (l .1) (x .2))),
-          )
+  ours-judged = rw (ours-part G d) (part-judged G d (λ v. true) (λ k c. true) legal)
 
   -- every judged table lies inside ours
-  module _ (T : Table) (fits : Fits G d T) (judged : Judged G d T) where
-    has-closed : (k : ℕ) → k < arena G d .nodes → arena G d .right k ≡ true → has T k ≡ true → Closed (arena G d) (λ k′. has T k′ ≡ true) k
-    unfolding arena
-    has-closed k h r e =
-        let (c, l, a) = has-action G d T fits k e in
-        record { safe = judged .safe k h e; action = c; action-lt = l; inside = judged-outcome G legal d T judged k c h l a }
-
-    has-stands : (k : ℕ) → has T k ≡ true → fell (finalRanks (arena G d)) k ≡ false
-    has-stands k e = region-largest (arena G d) (λ k′. has T k′ ≡ true) has-closed k e
-
-    -- its kept nodes are in the winning region
-    pub has-kept : (k : ℕ) → has T k ≡ true → kept (arena G d) (finalRanks (arena G d)) k ≡ true
-    has-kept k e =
-        kept-is (arena G d) (finalRanks (arena G d)) k (judged .right k (has-node G d T fits k e) e) (has-stands k e)
-
-    pub judged-inside : Inside T (ours G d)
-    unfolding goodWith arena
-    judged-inside =
-        record {
-          flags =
-              λ v f.
-              let h = flagged-word G d T fits v f in
-              good-flagged G d v h
-              (good-more G legal d (has T) (kept (arena G d) (finalRanks (arena G d))) v h (λ k l e. has-kept k e) (judged .words v h f));
-          masks = λ k c a. allowed-ours G d k c (allow k c a);
-        }
-      where
-        allow : (k c : ℕ) → allows T k c ≡ true → Allowed (arena G d) k c
-        allow k c a =
-            let e = allows-has T k c a in
-            let h = has-node G d T fits k e in
-            let l = allows-action G d T fits k c a in
-            record {
-              node = h;
-              region = has-kept k e;
-              action = l;
-              unspoilt =
-                  unspoilt (arena G d) (fell (finalRanks (arena G d))) k c
-                  (λ o i. let x = judged-outcome G legal d T judged k c h l a o i in (x .0, x .1, has-stands (x .0) (x .2)));
-            }
+  pub judged-inside : (T : Table) → Fits G d T → Judged G d T → Inside T (ours G d)
+  judged-inside T fits judged =
+      rw (ours-part G d)
+      (part-largest G d (λ v. true) (λ k c. true) legal T (fits-sized G d T fits) judged
+      (λ v f. (flagged-word G d T fits v f, refl))
+      (λ k c a. refl))
 
   -- a strategy wins exactly if it keeps to our table: nobody's plan is left out, and any choice out of the masks wins
   pub wins-obeys : (σ : Strategy (G .actions) d) → Wins G d σ → Obeys G d σ (ours G d)

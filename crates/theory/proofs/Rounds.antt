@@ -12,7 +12,7 @@ use borrow.Author.Tests.{eq-eqb, ne-eqb, not-true}
 use Rattle.theory.specs.Fold.{both, tabulate, count}
 use Rattle.theory.specs.Game.{Target, absent, to}
 use Rattle.theory.specs.Rounds.{Arena, bad, spoiltBy, fell, falls, rankIn, ranksAfter, finalRanks}
-use Rattle.theory.proofs.Fold.{bool, not-both, both-true, both-left, both-right, below?, any-of-none, any-of-fails, length-tabulate, getD-tabulate, getD-tabulate-out, tabulate-same}
+use Rattle.theory.proofs.Fold.{bool, not-both, both-true, both-left, both-right, below?, any-of-none, any-of-fails, length-tabulate, getD-tabulate, getD-tabulate-out, tabulate-same, any-of-some, any-of-holds}
 use Rattle.theory.proofs.Fold.{count-le, count-less}
 
 -- an action is unspoilt exactly if every outcome is a node that has not fallen
@@ -29,6 +29,15 @@ pub unspoilt : (E : Arena) (fallen : ℕ → Bool) (k c : ℕ)
 unfolding spoiltBy bad
 unspoilt E fallen k c f =
     any-of-fails (bad fallen) (E .step k c) (λ o m. let r = f o m in ap (bad fallen) (r .1) ∙ r .2)
+
+-- what is spoilt stays spoilt when more has fallen
+pub spoilt-more : (E : Arena) (f g : ℕ → Bool) (k c : ℕ) → ((j : ℕ) → f j ≡ true → g j ≡ true) → spoiltBy E f k c ≡ true → spoiltBy E g k c ≡ true
+unfolding spoiltBy bad
+spoilt-more E f g k c more e = let s = any-of-some (bad f) (E .step k c) e in any-of-holds (bad g) (s .1) (worse (s .0) (s .2))
+  where
+    worse : (o : Target) → bad f o ≡ true → bad g o ≡ true
+    worse absent h = refl
+    worse (to j) h = more j h
 
 -- what has fallen, by ranks
 

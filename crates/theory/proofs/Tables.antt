@@ -15,9 +15,9 @@ use Rattle.theory.specs.Play.{Play}
 use Rattle.theory.specs.Strategy.{initialLength, Strategy, Wins}
 use Rattle.theory.specs.Rounds.{spoiltBy, masks}
 use Rattle.theory.specs.Delay.{odd, words, initialWords, onRight, movedTo, playedTo, outcomes, step, arena, goodFrom}
-use Rattle.theory.specs.Table.{Table, flagged, lacks, has, bit, allows, Judged, node, Obeys}
+use Rattle.theory.specs.Table.{Table, flagged, lacks, has, allows, Judged, node, Obeys}
 use Rattle.theory.proofs.Fold.{bool, not-both}
-use Rattle.theory.proofs.Masks.{zero-bit}
+use Rattle.theory.proofs.Masks.{bit-some}
 use Rattle.theory.proofs.Rounds.{unspoilt, unspoilt-outcome}
 use Rattle.theory.proofs.Turns.{right-even, right-odd, to-injective, played-node, played-forbidden, played-passed, moved-passed}
 use Rattle.theory.proofs.Pending.{even-delay}
@@ -42,10 +42,17 @@ module _ (T : Table) where
   unfolding has
   has-lacks k e = not-true _ e
 
-  -- a mask with a bit is not 0
   pub allows-has : (k c : ℕ) → allows T k c ≡ true → has T k ≡ true
   unfolding allows
-  allows-has k c e = mask-has k (λ z. not-both e (ap (λ m. bit m c) z ∙ zero-bit c))
+  allows-has k c e = mask-has k (bit-some (getD (T .masks) k 0) c e)
+
+  pub flagged-flag : (v : ℕ) → flagged T v ≡ true → getD (T .flags) v 0 ≡ 0 → ⊥
+  unfolding flagged
+  flagged-flag v f z = eqb-false (getD (T .flags) v 0) 0 (not-true _ f) z
+
+  pub flag-flagged : (v : ℕ) → (getD (T .flags) v 0 ≡ 0 → ⊥) → flagged T v ≡ true
+  unfolding flagged
+  flag-flagged v n = rw (ne-eqb (getD (T .flags) v 0) 0 n)
 
 -- a legal game has an action
 pub legal-actions : (G : Game) → Legal G → 0 < G .actions

@@ -12,6 +12,7 @@ pub mod Rounds
 pub mod Delay
 pub mod Table
 pub mod Judging
+pub mod Closing
 pub mod Exact
 pub mod Reach
 pub mod cases
