@@ -60,7 +60,7 @@ module _ (G : Game) (t : List ℕ) (rule : Rule) (legal : Legal G) (reads : tabl
   unfolding openAnswer onAccepted
   opens-right = rw reads
 
-  goes-safely : (n : ℕ) → GoesSafely G (decode t) rule n
+  pub goes-safely : (n : ℕ) → GoesSafely G (decode t) rule n
   goes-safely n =
       let g = goes G legal (decode t) sound word word-flagged rule is n in
       record {

@@ -2,9 +2,9 @@
 use mathlib.Core.Path.{_≡_, refl}
 use mathlib.Core.List.{map}
 use Rattle.judge.specs.Judging.{judgeAnswer}
-use Rattle.judge.specs.cases.Tables.{tableFrom, hallBy, hallLess, cases}
+use Rattle.judge.specs.cases.Tables.{tableFrom, hallBy, hallOurs, hallLess, cases}
 use Rattle.judge.proofs.Computing.{judge-computes}
 
 pub cases-met : map (λ c. judgeAnswer (c .sheet) (c .table)) cases ≡ map (λ c. c .answer) cases
-unfolding judge-computes tableFrom hallBy hallLess cases
+unfolding judge-computes tableFrom hallBy hallOurs hallLess cases
 cases-met = refl

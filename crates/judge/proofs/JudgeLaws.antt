@@ -22,31 +22,32 @@ use Rattle.theory.proofs.Fold.{both-none, both-false, both-second, either-left,
 use Rattle.sheet.specs.Form.{partAt}
 use Rattle.sheet.specs.Limits.{mostWords, mostNodes}
 use Rattle.sheet.specs.Bodies.{delayOf}
-use Rattle.sheet.specs.Reading.{readAnswer, readingMeans, refusalNumber}
+use Rattle.reader.specs.Reading.{readAnswer, readingMeans, refusalNumber}
 use Rattle.sheet.specs.Refusals.{numberOf}
 use Rattle.sheet.specs.SheetGame.{gameOf}
 use Rattle.sheet.specs.code.Arrays.{gridOf, firstsOf, viewOf, bodiesGame}
 use Rattle.sheet.specs.declared.refusal.Refusal.{Refusal}
-use Rattle.sheet.specs.declared.reading.Layout.{Layout}
-use Rattle.sheet.specs.declared.reading.Reading.{Reading}
-use Rattle.sheet.specs.declared.reading.Reading.the-variants as reading
-use Rattle.sheet.proofs.Accepted.{carries, few-nodes, arena-nodes, read-accepted, read-refused}
-use Rattle.sheet.proofs.Legality.{legal-game}
+use Rattle.reader.specs.declared.reading.Layout.{Layout}
+use Rattle.reader.specs.declared.reading.Reading.{Reading}
+use Rattle.reader.specs.declared.reading.Reading.the-variants as reading
+use Rattle.reader.proofs.Accepted.{carries, few-nodes, arena-nodes, read-accepted, read-refused}
+use Rattle.reader.proofs.Legality.{legal-game}
 use Rattle.walk.specs.declared.level.Level.{Level}
 use Rattle.walk.specs.code.Levels.{arenaOf, levelAt, levelTo}
 use Rattle.walk.specs.code.Nodes.{Sized}
 use Rattle.walk.proofs.LevelLaws.{arena-is}
 use Rattle.walk.proofs.NodeLaws.{node-tested}
-use Rattle.solver.specs.code.Flags.{flagsAfter}
-use Rattle.solver.proofs.SolveLaws.{game-read, is-level}
-use Rattle.solver.proofs.FlagLaws.{sized-read}
+use Rattle.region.specs.code.Flags.{flagsAfter}
+use Rattle.region.proofs.ReadLaws.{game-read, is-level, sized-read}
 use Rattle.table.specs.TableSheet.{tableAt, tableAnswer, tableReadingMeans}
 use Rattle.table.specs.declared.reading.TableLayout.{TableLayout}
 use Rattle.table.specs.declared.reading.TableReading.{TableReading}
 use Rattle.table.specs.declared.reading.TableReading.the-variants as table
 use Rattle.table.proofs.Accepted.{table-accepted}
 use Rattle.judge.specs.Judging.{sheetsAgree, judgeAnswer}
-use Rattle.judge.specs.code.Parts.{Marked, partIn, wholeAt, flagStands, goodFlags}
+use Rattle.rule.specs.code.Parts.{marksAfter, Marked, partIn}
+use Rattle.rule.proofs.PartCode.{after-marked}
+use Rattle.judge.specs.code.Tests.{wholeAt, flagStands, goodFlags}
 use Rattle.judge.specs.code.Judgeable.{tableWith, layoutsAgree, Judgeable}
 use Rattle.judge.proofs.PartLaws.{node-is}
 use Rattle.judge.proofs.WordLaws.{flag-is}
@@ -175,8 +176,11 @@ module _ (s : List ℕ) (l : Layout) (flags masks : List ℕ) (j : Judgeable s l
   abbrev T : Table
   T = tableWith flags masks
 
-  pub marks-room : {n : ℕ} → mostNodes ≤ n → length masks ≤ n
+  marks-room : {n : ℕ} → mostNodes ≤ n → length masks ≤ n
   marks-room h = let f = few-nodes s l (j .reads) in omega (arith, j .fits .masks-length, arena-nodes s d)
+
+  pub marks-made : (before : List ℕ) {marks : List ℕ} → marks ≡ marksAfter masks before → mostNodes ≤ length before → Marked masks marks
+  marks-made before e h = rw e (after-marked masks before (marks-room h))
 
   module _ (marks : List ℕ) (marked : Marked masks marks) {v : ℕ}
       (ev : v ≡ firstNot (flagStands flags (goodFlags s marks)) (suc (length flags))) where
@@ -208,7 +212,13 @@ module _ (s : List ℕ) (l : Layout) (flags masks : List ℕ) (j : Judgeable s l
           let x = first-ended (nodeOk (arena G d) T) node-found (rw (e, j .fits .masks-length) at i) in
           rw (words-pass, x)
 
-pub ruleset rulings = (needs, marks-room, judged-word, judged-node, judged-sound)
+pub ruleset rulings = (needs, marks-made, judged-word, judged-node, judged-sound)
+
+-- check 21 over the layouts is the one over the bytes
+pub agree-layouts : (s t : List ℕ) (l : Layout) (x : TableLayout) → readAnswer s ≡ accepted l
+    → layoutsAgree l x ≡ sheetsAgree s (tableAt t x)
+unfolding layoutsAgree sheetsAgree
+agree-layouts s t l x reads = let c = carries s l reads in rw (c .start, c .actions, c .delay, c .positions-size)
 
 -- the checks; rd and y are the two readings
 
@@ -231,8 +241,7 @@ module _ (s t : List ℕ) (rd : Reading) (e : readingMeans rd ≡ readAnswer s) 
       readable = sym ey ∙ ap (tableReadingMeans t) b
 
       agree-is : layoutsAgree l x ≡ sheetsAgree s (tableAt t x)
-      unfolding layoutsAgree sheetsAgree
-      agree-is = let c = carries s l reads in rw (c .start, c .actions, c .delay, c .positions-size)
+      agree-is = agree-layouts s t l x reads
 
       pub mismatch : (n : ℕ) → not r ≡ true → n ≡ 21 → refused n ≡ judgeAnswer s t
       unfolding judgeAnswer onAccepted

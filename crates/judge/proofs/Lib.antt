@@ -1,5 +1,4 @@
 -- Laws of specs/ on which the proofs of the functions rest, and what an accepted judging says.
-pub mod PartCode
 pub mod PartLaws
 pub mod WordLaws
 pub mod JudgeLaws

@@ -2,10 +2,10 @@
 -- nothing.
 use Prim.Native.Nat.{ℕ, _^_, _<_}
 use mathlib.Core.Path.{_≡_, refl, sym, _∙_, ap}
-use mathlib.Core.Bool.{Bool, true, false, not, cond}
+use mathlib.Core.Bool.{Bool, true, false, cond}
 use mathlib.Core.Logic.{⊎-elim}
 use mathlib.Core.List.{List}
-use lib.Dec.{eqb, leb, ltb}
+use lib.Dec.{eqb}
 use lib.ListN.{getD}
 use borrow.Author.Tests.{eqb-true, eq-eqb, not-true}
 use Rattle.theory.specs.Fold.{both}
@@ -20,7 +20,9 @@ use Rattle.theory.proofs.Rounds.{unspoilt}
 use Rattle.theory.proofs.Tables.{has-mask, lacks-has, unspoilt-too}
 use Rattle.theory.proofs.Judging.{Stands, node-stands, stands-node}
 use Rattle.walk.specs.code.Walks.{fallenBy}
-use Rattle.judge.specs.code.Parts.{markFor, markAt, Marked, stays, partOf, wholeAt}
+use Rattle.rule.proofs.PartCode.{mark-fallen}
+use Rattle.rule.specs.code.Parts.{markFor, markAt, Marked, stays, partOf}
+use Rattle.judge.specs.code.Tests.{wholeAt}
 
 -- a number behind a test: where it is not 0, the test passed
 part-stands : (b : Bool) (m : ℕ) → (cond b m 0 ≡ 0 → ⊥) → (b ≡ true) × (cond b m 0 ≡ m)
@@ -89,11 +91,6 @@ module _ (E : Arena) (fallen : ℕ → Bool) (T : Table) (k : ℕ) (small : getD
       (λ e. eq-eqb _ _ (stands-whole e))
 
 -- over the marks of a T body
-
-mark-fallen : (b : Bool) → both (ltb 0 (cond b 1 0)) (leb (cond b 1 0) 1) ≡ b
-unfolding both
-mark-fallen true = refl
-mark-fallen false = refl
 
 module _ (G : Game) (legal : Legal G) (d : ℕ) (T : Table) (fits : Fits G d T) (marks : List ℕ) (marked : Marked (T .masks) marks) where
   pub marks-lack : (k : ℕ) → k < arena G d .nodes → fallenBy 1 marks k ≡ lacks T k

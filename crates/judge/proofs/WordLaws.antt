@@ -18,16 +18,17 @@ use Rattle.theory.proofs.Tables.{good-sided}
 use Rattle.sheet.specs.Limits.{mostWords}
 use Rattle.sheet.specs.Bodies.{actionCount, delayOf}
 use Rattle.sheet.specs.SheetGame.{gameOf}
-use Rattle.sheet.specs.declared.reading.Layout.{Layout}
-use Rattle.sheet.proofs.Accepted.{read-is, ranges}
-use Rattle.sheet.proofs.Legality.{legal-game}
+use Rattle.reader.specs.declared.reading.Layout.{Layout}
+use Rattle.reader.proofs.Accepted.{read-is, ranges}
+use Rattle.reader.proofs.Legality.{legal-game}
 use Rattle.sheet.proofs.SizeLaws.{few-first-words}
-use Rattle.solver.specs.code.Flags.{flagWith, flagsAfter}
-use Rattle.solver.proofs.FlagLaws.{words-counted}
-use Rattle.judge.specs.code.Parts.{markFor, markAt, Marked, flagStands, goodFlags}
+use Rattle.region.specs.code.Flags.{flagWith, flagsAfter}
+use Rattle.region.proofs.FlagLaws.{words-counted}
+use Rattle.rule.specs.code.Parts.{markFor, markAt, Marked}
+use Rattle.judge.specs.code.Tests.{flagStands, goodFlags}
 use Rattle.judge.specs.code.Judgeable.{tableWith, Judgeable}
 
-flag-test : (b : Bool) → not (eqb (cond b 1 0) 0) ≡ b
+pub flag-test : (b : Bool) → not (eqb (cond b 1 0) 0) ≡ b
 flag-test true = refl
 flag-test false = refl
 
@@ -37,7 +38,7 @@ module _ (G : Game) (legal : Legal G) (d : ℕ) (T : Table) (fits : Fits G d T) 
   marks-fell k h = rw (marked k (rw (fits .masks-length) h)) (flag-test (eqb (getD (T .masks) k 0) 0))
 
   -- the words that are good by the marks are those that are good by the table
-  good-same : (v : ℕ) → v < initialWords G d → goodWith G d marks v ≡ goodFrom G d (has T) v
+  pub good-same : (v : ℕ) → v < initialWords G d → goodWith G d marks v ≡ goodFrom G d (has T) v
   unfolding goodWith keptBy has
   good-same v h =
       same-test _ _
@@ -57,7 +58,7 @@ module _ (s : List ℕ) (l : Layout) (flags masks : List ℕ) (j : Judgeable s l
       let r = ranges s (read-is s l (j .reads) .0) in
       few-first-words (actionCount s) (delayOf s) (r .few-actions) (r .short-delay)
 
-  flag-in : (b : List ℕ) (v : ℕ) → mostWords ≤ length b → v < initialWords (gameOf s) (delayOf s)
+  pub flag-in : (b : List ℕ) (v : ℕ) → mostWords ≤ length b → v < initialWords (gameOf s) (delayOf s)
       → getD (flagsAfter s marks b) v 0 ≡ flagBy (goodWith (gameOf s) (delayOf s) marks) v
   unfolding flagsAfter flagWith
   flag-in b v room h =

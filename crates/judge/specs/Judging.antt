@@ -9,7 +9,7 @@ use Rattle.theory.specs.Fold.{both}
 use Rattle.theory.specs.Answer.{Answer, refused, accepted, check, onAccepted}
 use Rattle.theory.specs.Judging.{Ruling, sound, badWord, badNode, ruling}
 use Rattle.sheet.specs.Bodies.{positionsBody, startOf, actionCount, delayOf}
-use Rattle.sheet.specs.Reading.{readAnswer}
+use Rattle.reader.specs.Reading.{readAnswer}
 use Rattle.sheet.specs.SheetGame.{gameOf}
 use Rattle.table.specs.TableSheet.{TableSheet, tableAnswer}
 use Rattle.judge.specs.declared.judging.Judgement.{Judgement}

@@ -1,6 +1,10 @@
 // Judging a table sheet, whoever made it, against a game sheet: refusals 1 to 7, 10 to 12, then 21; then yes, or what offends first.
-use crate::part::allowed_part;
-use crate::part::fill_marks;
+use reader::reading::Layout;
+use reader::reading::Reading;
+use reader::reading::read;
+use region::words::initial_flags;
+use rule::part::allowed_part;
+use rule::part::fill_marks;
 use sheet::form::byte;
 use sheet::form::part;
 use sheet::form::wide;
@@ -11,11 +15,7 @@ use sheet::limits::MOST_WORDS;
 use sheet::limits::ROW;
 use sheet::limits::ROWS;
 use sheet::moves::first_lines;
-use sheet::reading::Layout;
-use sheet::reading::Reading;
-use sheet::reading::read;
 use sheet::refusal::Refusal;
-use solver::words::initial_flags;
 use table::reading::TableLayout;
 use table::reading::TableReading;
 use table::reading::mask_count;
@@ -31,12 +31,12 @@ ghost use Rattle.theory.specs.Fold.{firstNot};
 ghost use Rattle.theory.specs.Delay.{arena};
 ghost use Rattle.sheet.specs.Limits.{mostNodes};
 ghost use Rattle.sheet.specs.Bodies.{delayOf};
-ghost use Rattle.sheet.specs.Reading.{readAnswer};
+ghost use Rattle.reader.specs.Reading.{readAnswer};
 ghost use Rattle.sheet.specs.SheetGame.{gameOf};
 ghost use Rattle.walk.specs.code.Nodes.{Sized};
-ghost use Rattle.solver.specs.code.Flags.{flagsAfter};
+ghost use Rattle.region.specs.code.Flags.{flagsAfter};
 ghost use Rattle.judge.specs.Judging.{judgeAnswer, judgementMeans};
-ghost use Rattle.judge.specs.code.Parts.{wholeAt, wholeIn, flagStands, goodFlags};
+ghost use Rattle.judge.specs.code.Tests.{wholeAt, wholeIn, flagStands, goodFlags};
 ghost use Rattle.judge.specs.code.Judgeable.{layoutsAgree, Judgeable, ruledOn};
 
 // The number of the first offending word in W, or of the first offending node.
@@ -48,7 +48,7 @@ pub enum Judgement {
 }
 
 // Check 21.
-fn layouts_agree(l: Layout, x: TableLayout) -> bool
+pub fn layouts_agree(l: Layout, x: TableLayout) -> bool
     ensures { λ r. ⌜ r ≡ layoutsAgree l x ⌝ }
 {
     let positions = l.positions;

@@ -1,3 +1,2 @@
 // Judging tables made elsewhere: document 02's W-202, refusals 1 to 7, 10 to 12 and 21.
-pub mod part; // the part of a mask that may stand
 pub mod judging; // judging a table sheet

@@ -2,11 +2,11 @@
 -- Assumes nothing.
 use mathlib.Core.Path.{_≡_, refl}
 use lib.ListN.{take}
-use Rattle.sheet.specs.cases.Yards.{guess}
-use Rattle.sheet.specs.cases.Sheets.{guessBytes}
+use Rattle.reader.specs.cases.Yards.{guess}
+use Rattle.reader.specs.cases.Sheets.{guessBytes}
 use Rattle.text.specs.Ascii.{ascii}
 use Rattle.lister.specs.Listing.{wonText, lostText, gameText, readText, listingOf, programText}
-use Rattle.sheet.proofs.Computing.{sheet-computes}
+use Rattle.reader.proofs.Computing.{sheet-computes}
 use Rattle.text.proofs.Computing.{text-computes}
 
 pub listings : record {

@@ -7,11 +7,11 @@ use lib.ListN.{length, take}
 use borrow.Author.Needs.{needs}
 use borrow.Author.Tests.{lt-ltb, le-ltb}
 use Rattle.theory.specs.Answer.{refused, onAccepted}
-use Rattle.sheet.specs.Reading.{readAnswer, readingMeans, refusalNumber}
+use Rattle.reader.specs.Reading.{readAnswer, readingMeans, refusalNumber}
 use Rattle.sheet.specs.declared.refusal.Refusal.{Refusal}
-use Rattle.sheet.specs.declared.reading.Reading.{Reading}
-use Rattle.sheet.specs.declared.reading.Reading.the-variants.{Refused}
-use Rattle.sheet.proofs.Accepted.{read-accepted, read-refused}
+use Rattle.reader.specs.declared.reading.Reading.{Reading}
+use Rattle.reader.specs.declared.reading.Reading.the-variants.{Refused}
+use Rattle.reader.proofs.Accepted.{read-accepted, read-refused}
 use Rattle.text.specs.Page.{Page, page, puts}
 use Rattle.text.specs.Lines.{refusedLine}
 use Rattle.text.proofs.Page.{place-within}

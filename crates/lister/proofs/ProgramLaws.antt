@@ -22,10 +22,10 @@ use Rattle.theory.proofs.Region.{length-masks}
 use Rattle.theory.proofs.Reach.{reached-few}
 use Rattle.sheet.specs.Limits.{mostPositions, mostActions, mostDelay, mostNodes, mostWords}
 use Rattle.sheet.specs.Bodies.{delayOf}
-use Rattle.sheet.specs.Reading.{checkedAnswer, readAnswer}
+use Rattle.reader.specs.Reading.{checkedAnswer, readAnswer}
 use Rattle.sheet.specs.SheetGame.{gameOf}
-use Rattle.sheet.specs.declared.reading.Layout.{Layout}
-use Rattle.sheet.proofs.Accepted.{Ranges, read-is, ranges, few-nodes, arena-nodes}
+use Rattle.reader.specs.declared.reading.Layout.{Layout}
+use Rattle.reader.proofs.Accepted.{Ranges, read-is, ranges, few-nodes, arena-nodes}
 use Rattle.text.specs.Page.{Page, page, puts}
 use Rattle.text.proofs.Page.{written}
 use Rattle.text.proofs.Lines.{length-winning}

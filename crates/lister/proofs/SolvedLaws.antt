@@ -13,14 +13,14 @@ use Rattle.theory.proofs.Rounds.{final-length}
 use Rattle.theory.proofs.Region.{length-masks}
 use Rattle.theory.proofs.Monotone.{answer-least}
 use Rattle.sheet.specs.Limits.{mostActions, mostWords}
-use Rattle.sheet.specs.Checks.{nodesOf}
+use Rattle.sheet.specs.Size.{nodesOf}
 use Rattle.sheet.specs.code.Steps.{powerTo}
 use Rattle.sheet.specs.Bodies.{delayOf}
-use Rattle.sheet.specs.Reading.{readAnswer}
+use Rattle.reader.specs.Reading.{readAnswer}
 use Rattle.sheet.specs.SheetGame.{gameOf}
-use Rattle.sheet.specs.declared.reading.Layout.{Layout}
-use Rattle.sheet.proofs.Accepted.{read-is, ranges, carries, arena-nodes}
-use Rattle.sheet.proofs.Legality.{legal-game}
+use Rattle.reader.specs.declared.reading.Layout.{Layout}
+use Rattle.reader.proofs.Accepted.{read-is, ranges, carries, arena-nodes}
+use Rattle.reader.proofs.Legality.{legal-game}
 use Rattle.sheet.proofs.SizeLaws.{nodes-small}
 use Rattle.text.specs.Page.{Page, puts}
 use Rattle.text.specs.Lines.{refusedLine}

@@ -16,16 +16,16 @@ use Rattle.theory.proofs.Buffer.{over-first, over-room}
 use Rattle.theory.proofs.Fold.{length-tabulate}
 use Rattle.sheet.specs.Limits.{mostWords}
 use Rattle.sheet.specs.Bodies.{delayOf}
-use Rattle.sheet.specs.Reading.{readAnswer}
+use Rattle.reader.specs.Reading.{readAnswer}
 use Rattle.sheet.specs.SheetGame.{gameOf}
-use Rattle.sheet.specs.declared.reading.Layout.{Layout}
-use Rattle.sheet.proofs.Accepted.{read-is, ranges}
-use Rattle.sheet.proofs.Legality.{legal-game}
+use Rattle.reader.specs.declared.reading.Layout.{Layout}
+use Rattle.reader.proofs.Accepted.{read-is, ranges}
+use Rattle.reader.proofs.Legality.{legal-game}
 use Rattle.sheet.proofs.SizeLaws.{power-bound}
 use Rattle.text.specs.Page.{Page, puts}
 use Rattle.text.specs.Lines.{startLines}
-use Rattle.solver.specs.code.Flags.{flagWith, flagsCount, flagsAfter}
-use Rattle.solver.proofs.FlagLaws.{words-counted, flags-final}
+use Rattle.region.specs.code.Flags.{flagWith, flagsCount, flagsAfter}
+use Rattle.region.proofs.FlagLaws.{words-counted, flags-final}
 use Rattle.lister.specs.code.Parts.{flagsIn, startsBy}
 
 -- n flags stand in the buffer fs, which was b

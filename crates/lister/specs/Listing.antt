@@ -11,9 +11,9 @@ use Rattle.theory.specs.Rounds.{masks, finalRanks}
 use Rattle.theory.specs.Delay.{Verdict, wins, losing, arena, flags, answer}
 use Rattle.theory.specs.Reach.{reached}
 use Rattle.sheet.specs.Bodies.{delayOf}
-use Rattle.sheet.specs.Reading.{readAnswer}
+use Rattle.reader.specs.Reading.{readAnswer}
 use Rattle.sheet.specs.SheetGame.{gameOf}
-use Rattle.sheet.specs.declared.reading.Layout.{Layout}
+use Rattle.reader.specs.declared.reading.Layout.{Layout}
 use Rattle.text.specs.Lines.{refusedLine, headLine, winningLine, losingLine, startLines, allowLines, rankLines}
 use Rattle.solver.specs.Solving.{Solved, solveAnswer, masksLeft, ranksLeft}
 

@@ -1,14 +1,14 @@
 // The listing, from the bytes of a sheet to the lines that document 01 prints.
+use reader::reading::Layout;
+use reader::reading::Reading;
+use reader::reading::read;
+use region::words::initial_flags;
 use sheet::form::wide;
 use sheet::limits::MOST_NODES;
 use sheet::limits::MOST_WORDS;
-use sheet::reading::Layout;
-use sheet::reading::Reading;
-use sheet::reading::read;
 use sheet::size::nodes_at;
 use solver::solve::Solution;
 use solver::solve::solve;
-use solver::words::initial_flags;
 use text::listing::put_allows;
 use text::listing::put_head;
 use text::listing::put_losing;
@@ -20,7 +20,7 @@ ghost use mathlib.Core.Path.{_≡_};
 ghost use lib.ListN.{length};
 ghost use Rattle.theory.specs.Answer.{accepted};
 ghost use Rattle.sheet.specs.Limits.{mostWords};
-ghost use Rattle.sheet.specs.Reading.{readAnswer};
+ghost use Rattle.reader.specs.Reading.{readAnswer};
 ghost use Rattle.text.specs.Page.{Writes};
 ghost use Rattle.solver.specs.Solving.{solving, masksSolved, ranksSolved};
 ghost use Rattle.theory.specs.Buffer.{over};

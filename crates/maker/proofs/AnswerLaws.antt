@@ -5,11 +5,11 @@ use mathlib.Core.List.{List}
 use borrow.Author.Needs.{needs}
 use Rattle.theory.specs.Answer.{Answer, refused, accepted, onAccepted}
 use Rattle.sheet.specs.Refusals.{numberOf}
-use Rattle.sheet.specs.Reading.{readAnswer, readingMeans, refusalNumber}
+use Rattle.reader.specs.Reading.{readAnswer, readingMeans, refusalNumber}
 use Rattle.sheet.specs.declared.refusal.Refusal.{Refusal}
-use Rattle.sheet.specs.declared.reading.Layout.{Layout}
-use Rattle.sheet.specs.declared.reading.Reading.{Reading}
-use Rattle.sheet.specs.declared.reading.Reading.the-variants.{Accepted, Refused}
+use Rattle.reader.specs.declared.reading.Layout.{Layout}
+use Rattle.reader.specs.declared.reading.Reading.{Reading}
+use Rattle.reader.specs.declared.reading.Reading.the-variants.{Accepted, Refused}
 use Rattle.solver.specs.Solving.{solveAnswer}
 use Rattle.maker.specs.Making.{Made, makeAnswer, ifMade, outputAfter, Measured, measured}
 use Rattle.maker.specs.code.Checked.{Small, nodesAt, wordsAt, shortOf, Ready}

@@ -5,10 +5,10 @@ use mathlib.Core.List.{List}
 use Rattle.theory.specs.Answer.{accepted}
 use Rattle.theory.specs.Delay.{initialWords, arena}
 use Rattle.sheet.specs.Bodies.{delayOf}
-use Rattle.sheet.specs.Reading.{readAnswer}
+use Rattle.reader.specs.Reading.{readAnswer}
 use Rattle.sheet.specs.SheetGame.{gameOf}
-use Rattle.sheet.specs.declared.reading.Layout.{Layout}
-use Rattle.sheet.proofs.Accepted.{read-is, ranges, carries, arena-nodes}
+use Rattle.reader.specs.declared.reading.Layout.{Layout}
+use Rattle.reader.proofs.Accepted.{read-is, ranges, carries, arena-nodes}
 use Rattle.writer.specs.SheetBytes.{headerOf}
 use Rattle.maker.specs.code.Checked.{Small, nodesAt, wordsAt, headerBytes}
 

@@ -16,32 +16,17 @@ use Rattle.theory.proofs.Answer.{check-accepted, accepted-on, accepted-same}
 use Rattle.theory.proofs.Rounds.{final-length}
 use Rattle.theory.proofs.Tables.{legal-actions}
 use Rattle.sheet.specs.Bodies.{delayOf}
-use Rattle.sheet.specs.Reading.{readAnswer}
+use Rattle.reader.specs.Reading.{readAnswer}
 use Rattle.sheet.specs.SheetGame.{gameOf}
-use Rattle.sheet.proofs.Accepted.{read-is, ranges, few-nodes, arena-nodes}
-use Rattle.sheet.proofs.Legality.{legal-game}
-use Rattle.sheet.specs.declared.reading.Layout.{Layout}
+use Rattle.reader.specs.declared.reading.Layout.{Layout}
 use Rattle.solver.specs.Solving.{solveAnswer}
 use Rattle.table.specs.TableSheet.{tableAnswer}
 use Rattle.writer.specs.SheetBytes.{headerOf, rankSheet}
-use Rattle.writer.proofs.Readable.{Ranged}
+use Rattle.writer.proofs.Readable.{Ranged, sheet-ranged}
 use Rattle.writer.proofs.WriteLaws.{rank-size}
 use Rattle.maker.specs.Making.{tableSheetOf, rankSheetOf, Made, won, madeOf, outputSize, makeAnswer}
 use Rattle.theory.proofs.Monotone.{wins-winning}
 use Rattle.maker.proofs.Readable.{tableFor, table-sheet-length, made-readable}
-
--- an accepted game sheet's numbers
-pub sheet-ranged : (s : List ℕ) (l : Layout) → readAnswer s ≡ accepted l → Ranged (gameOf s) (delayOf s)
-unfolding gameOf
-sheet-ranged s l e =
-    let r = ranges s (read-is s l e .0) in
-    record {
-      legal = legal-game s l e;
-      few-positions = r .few-positions;
-      few-actions = r .few-actions;
-      short-delay = r .short-delay;
-      few-nodes = rw (arena-nodes s (delayOf s)) (few-nodes s l e);
-    }
 
 -- an accepted making that won
 pub record Won (s t : List ℕ) : Type 0 where

@@ -12,9 +12,9 @@ use Rattle.theory.specs.Answer.{refused, accepted, check, onAccepted}
 use Rattle.theory.specs.Delay.{initialWords, arena}
 use Rattle.theory.proofs.Fold.{bool, both-true, both-false, both-left, both-right, both-none}
 use Rattle.sheet.specs.Bodies.{delayOf}
-use Rattle.sheet.specs.Reading.{readAnswer}
+use Rattle.reader.specs.Reading.{readAnswer}
 use Rattle.sheet.specs.SheetGame.{gameOf}
-use Rattle.sheet.specs.declared.reading.Layout.{Layout}
+use Rattle.reader.specs.declared.reading.Layout.{Layout}
 use Rattle.sheet.proofs.SizeLaws.{small-sizes}
 use Rattle.solver.specs.Solving.{solveAnswer}
 use Rattle.maker.specs.Making.{outputSize, makeAnswer}

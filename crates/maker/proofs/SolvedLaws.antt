@@ -22,18 +22,18 @@ use Rattle.theory.proofs.Rounds.{final-length}
 use Rattle.sheet.specs.Limits.{mostDelay, mostNodes}
 use Rattle.sheet.specs.Bodies.{delayOf}
 use Rattle.sheet.specs.SheetGame.{gameOf}
-use Rattle.sheet.specs.declared.reading.Layout.{Layout}
-use Rattle.sheet.proofs.Accepted.{carries}
+use Rattle.reader.specs.declared.reading.Layout.{Layout}
+use Rattle.reader.proofs.Accepted.{carries}
 use Rattle.text.specs.Page.{page, puts}
 use Rattle.text.proofs.Page.{written}
 use Rattle.solver.specs.Solving.{solveAnswer, solvedDelay, masksLeft, ranksLeft, solutionMeans}
 use Rattle.solver.specs.declared.solve.Solution.{Solution}
 use Rattle.solver.specs.declared.solve.Solution.the-variants as solution
 use Rattle.writer.specs.SheetBytes.{rankBytes, rankSheet}
-use Rattle.writer.proofs.Readable.{Ranged}
+use Rattle.writer.proofs.Readable.{Ranged, sheet-ranged}
 use Rattle.maker.specs.Making.{tableSheetOf, rankSheetOf, Made, won, lost, madeOf, makeAnswer, outputAfter, measureOf, measured}
 use Rattle.maker.specs.code.Checked.{Small, nodesAt, headerBytes, Ready, HasTable}
-use Rattle.maker.proofs.Made.{sheet-ranged, nodes-more, table-fits, ranks-fit}
+use Rattle.maker.proofs.Made.{nodes-more, table-fits, ranks-fit}
 use Rattle.maker.proofs.LayoutLaws.{small, nodes-are, header-is}
 
 -- a made sheet is its verdict and its bytes

@@ -16,17 +16,16 @@ use Rattle.theory.proofs.OurTable.{ours-fits}
 use Rattle.sheet.specs.Limits.{mostNodes, mostWords}
 use Rattle.sheet.specs.Bodies.{delayOf}
 use Rattle.sheet.specs.SheetGame.{gameOf}
-use Rattle.sheet.specs.declared.reading.Layout.{Layout}
+use Rattle.reader.specs.declared.reading.Layout.{Layout}
 use Rattle.sheet.proofs.SizeLaws.{small-sizes}
 use Rattle.text.specs.Page.{Page, puts}
-use Rattle.solver.specs.code.Flags.{flagsCount, flagsAfter}
-use Rattle.solver.proofs.FlagLaws.{words-counted, flags-theory}
+use Rattle.region.specs.code.Flags.{flagsCount, flagsAfter}
+use Rattle.region.proofs.FlagLaws.{words-counted, flags-theory}
 use Rattle.writer.specs.SheetBytes.{tableBytes, tableSheet, rankBytes, writtenSheet}
-use Rattle.writer.proofs.Readable.{few-words}
+use Rattle.writer.proofs.Readable.{few-words, sheet-ranged}
 use Rattle.writer.proofs.WriteLaws.{written-whole, rank-size}
 use Rattle.maker.specs.Making.{tableSheetOf}
 use Rattle.maker.specs.code.Checked.{Small, nodesAt, headerBytes, HasTable}
-use Rattle.maker.proofs.Made.{sheet-ranged}
 use Rattle.maker.proofs.Readable.{table-sheet-short}
 use Rattle.maker.proofs.LayoutLaws.{small, asked-nodes, asked-header}
 

@@ -1,14 +1,15 @@
 // Making a sheet from a game sheet: document 01's refusals 1 to 9, then the table sheet or the rank sheet.
+use reader::reading::Layout;
+use reader::reading::Reading;
+use reader::reading::read;
+use region::words::initial_flags;
 use sheet::limits::MOST_WORDS;
-use sheet::reading::Layout;
-use sheet::reading::Reading;
-use sheet::reading::read;
 use sheet::refusal::Refusal;
 use sheet::size::nodes_at;
 use sheet::size::words_at;
 use solver::solve::Solution;
 use solver::solve::solve;
-use solver::words::initial_flags;
+use writer::writing::TABLE_START;
 use writer::writing::put_rank_sheet;
 use writer::writing::put_table_sheet;
 ghost use mathlib.Core.Path.{_≡_};
@@ -22,9 +23,6 @@ ghost use Rattle.solver.specs.Solving.{masksSolved, ranksSolved};
 ghost use Rattle.writer.specs.SheetBytes.{rankBytes};
 ghost use Rattle.maker.specs.Making.{tableSheetOf, makingMeans, madeAnswer, masksMade, ranksMade, outputMade};
 ghost use Rattle.maker.specs.code.Checked.{Small, nodesAt, wordsAt, headerBytes, shortOf, Ready, HasTable};
-
-// The contents and the S body of a table sheet.
-const TABLE_START: usize = 19;
 
 // The length of the sheet that was written and the number of reached positions, with the losing delay where it is a rank sheet.
 pub enum Making {

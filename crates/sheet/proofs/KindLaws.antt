@@ -1,19 +1,15 @@
--- The kinds of positions and check 2, as the code of src/kinds.rt finds them. Assumes nothing.
-use Prim.Native.Nat.{ℕ, _+_, _≤_, _<_}
+-- The kinds of positions, as the code of src/kinds.rt finds them. Assumes nothing.
+use Prim.Native.Nat.{ℕ, _≤_, _<_}
 use mathlib.Core.Path.{_≡_, sym, _∙_, ap}
 use mathlib.Core.Bool.{Bool, true, false, not}
 use mathlib.Core.List.{List}
 use lib.ListN.{length, getD}
 use borrow.Author.Needs.{needs}
-use borrow.Author.Tests.{le-leb, lt-leb, lt-ltb, le-ltb, ne-eqb}
-use Rattle.theory.specs.Fold.{allBelow}
-use Rattle.theory.proofs.Fold.{both-true, both-false, all-none, all-done, both-none, all-next, all-stopped}
+use borrow.Author.Tests.{lt-ltb, le-ltb, ne-eqb}
 use Rattle.sheet.specs.Kinds.{kindOf, kindAt, isKnown, isController, isEnvironment, isSafe, knownAt, controllerAt, environmentAt, safeAt}
-use Rattle.sheet.specs.Checks.{positionsOk}
 use Rattle.sheet.specs.declared.kinds.Kind.{Kind}
 use Rattle.sheet.specs.declared.kinds.Kind.the-variants.{Position, Invalid}
 use Rattle.theory.specs.Delay.{onRight}
-use Rattle.sheet.specs.Limits.{mostPositions}
 
 -- the match on a P byte
 
@@ -97,33 +93,6 @@ pub ruleset kinds = (
   known-known,
   known-none,
 )
-
--- check 2
-
-module _ (p : List ℕ) where
-  pub no-positions : length p < 1 → false ≡ positionsOk p
-  unfolding positionsOk
-  no-positions h = sym (both-none _ _ (lt-leb 1 (length p) h))
-
-  pub many-positions : mostPositions < length p → false ≡ positionsOk p
-  unfolding positionsOk
-  many-positions h = sym (both-false _ _ (both-none _ _ (lt-leb (length p) mostPositions h)))
-
-  pub unknown-position : (q : ℕ) (r : Bool) → q < length p → r ≡ knownAt p q → not r ≡ true → false ≡ positionsOk p
-  unfolding positionsOk
-  unknown-position q r h e f = sym (both-false _ _ (both-false _ _ (all-stopped (knownAt p) q (length p) h e f)))
-
-  pub positions-again : (q : ℕ) (r : Bool) → allBelow (knownAt p) q ≡ true → r ≡ knownAt p q → not r ≡ false
-      → allBelow (knownAt p) (q + 1) ≡ true
-  positions-again q r = all-next (knownAt p) q
-
-  pub positions-right : (q : ℕ) → 1 ≤ length p → length p ≤ mostPositions → q ≤ length p → length p ≤ q → allBelow (knownAt p) q ≡ true
-      → true ≡ positionsOk p
-  unfolding positionsOk
-  positions-right q l m g h e =
-      sym (both-true _ _ (le-leb _ _ l) (both-true _ _ (le-leb _ _ m) (all-done (knownAt p) g h e)))
-
-pub ruleset positions = (needs, all-none, no-positions, many-positions, unknown-position, positions-again, positions-right)
 
 -- sides
 

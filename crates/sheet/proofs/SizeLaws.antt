@@ -1,21 +1,17 @@
--- Powers that are cut off, nodes, first words and check 7, as the code of src/size.rt finds them. Assumes nothing.
+-- Powers that are cut off, nodes and first words, as the code of src/size.rt finds them. Assumes nothing.
 use Prim.Native.Nat.{ℕ, suc, _+_, _*_, _/_, _^_, _≤_, _<_}
 use mathlib.Core.Path.{_≡_, sym, _∙_, ap}
-use mathlib.Core.Bool.{true, false, cond}
 use mathlib.Core.Logic.{⊎-elim}
-use mathlib.Core.List.{List}
 use native.Mathlib.Omega.{arith}
-use native.Mathlib.Nat.{le-trans, pow-le-pow-left, pow-zero, pow-suc, pow-le-pow-right, le-of-lt, mul-le-mul, mul-le-mul-left, mul-le-mul-right, mul-zero, zero-mul}
+use native.Mathlib.Nat.{le-trans, pow-le-pow-left, pow-zero, pow-suc, pow-le-pow-right, le-of-lt, mul-le-mul, mul-zero}
 use native.Mathlib.Numerals.{add-one}
-use lib.Dec.{leb}
-use lib.ListN.{length}
 use borrow.Author.Needs.{needs}
-use borrow.Author.Tests.{le-leb, lt-leb, leb-false}
+use borrow.Author.Tests.{le-leb, lt-leb}
 use Rattle.theory.specs.Strategy.{initialLength}
-use Rattle.theory.proofs.Fold.{bool, below?}
-use Rattle.sheet.specs.Checks.{nodesOf, sizeOk}
+use Rattle.theory.proofs.Fold.{below?}
+use Rattle.sheet.specs.Size.{nodesOf}
 use Rattle.sheet.specs.code.Steps.{powerTo, mostPower}
-use Rattle.sheet.specs.Limits.{mostPositions, mostActions, mostDelay, mostNodes, mostWords}
+use Rattle.sheet.specs.Limits.{mostPositions, mostActions, mostDelay, mostWords}
 
 pub product-small : {r m w x : ℕ} → r ≤ m → w ≡ x → x < 256 → r * w ≤ m * 256
 product-small h e l = mul-le-mul h (omega arith)
@@ -54,26 +50,6 @@ module _ (b : ℕ) where
 
 pub ruleset powers = (needs, power-first, power-again, power-over, power-is)
 
--- cutting the power off at 65,536 does not change how the nodes compare with 16,384
-cut-same : (n x : ℕ) → leb (n * cond (leb x mostPower) x mostPower) mostNodes ≡ leb (n * x) mostNodes
-cut-same n x =
-    ⊎-elim
-    (λ (t : leb x mostPower ≡ true). rw t)
-    (λ (f : leb x mostPower ≡ false).
-    rw f
-    (⊎-elim
-    (λ (l : 0 < n).
-    let big : 1 * mostPower ≤ n * mostPower = mul-le-mul-right mostPower l in
-    let more : n * mostPower ≤ n * x = mul-le-mul-left n (le-of-lt (leb-false x mostPower f)) in
-    lt-leb (n * mostPower) mostNodes (omega arith) ∙ sym (lt-leb (n * x) mostNodes (omega arith)))
-    (λ (z : n ≤ 0). let none : n ≡ 0 = omega arith in rw (none, zero-mul mostPower, zero-mul x))
-    (below? 0 n)))
-    (bool (leb x mostPower))
-
-pub size-is : (p : List ℕ) (a d n : ℕ) → n ≡ length p * powerTo a (d / 2) → leb n mostNodes ≡ sizeOk p a d
-unfolding sizeOk nodesOf powerTo
-size-is p a d n e = rw e (cut-same (length p) (a ^ (d / 2)))
-
 -- so many positions as two bytes can say
 pub nodes-most : {p w : ℕ} → p < mostPower → w ≤ mostPower → p * w ≤ mostPower * mostPower
 nodes-most h i = mul-le-mul {n₂ = mostPower} (le-of-lt h) i
@@ -87,7 +63,7 @@ module _ (a d v w : ℕ) (ev : v ≡ d) where
   pub words-is : w ≡ powerTo a ((v + 1) / 2) → w ≡ powerTo a (initialLength d)
   words-is e = rw (e, ev)
 
-pub ruleset sizes = (needs, size-is, nodes-is, nodes-most, words-is)
+pub ruleset sizes = (needs, nodes-is, nodes-most, words-is)
 
 -- three actions make a word at most
 pub power-bound : (a n : ℕ) → a ≤ mostActions → n ≤ 3 → a ^ n ≤ mostWords

@@ -5,7 +5,7 @@ use Rattle.sheet.specs.declared.refusal.Refusal.{Refusal}
 use Rattle.sheet.specs.declared.refusal.Refusal.the-variants.{Contents, Positions, Header, Targets, Moves, Stuck, Size, Buffers}
 use Rattle.sheet.specs.declared.refusal.Refusal.the-variants.{Output, TableContents, TableShape, NoInitialWord, Unobserved, NoAction}
 use Rattle.sheet.specs.declared.refusal.Refusal.the-variants.{LastTurn, UnknownPosition, TooOld, TooNew, Contradiction, State}
-use Rattle.sheet.specs.declared.refusal.Refusal.the-variants.{Mismatch, TooMany}
+use Rattle.sheet.specs.declared.refusal.Refusal.the-variants.{Mismatch, TooMany, NoSuchPosition}
 
 abbrev pub numberOf : Refusal → ℕ
 numberOf Contents = 1
@@ -30,3 +30,4 @@ numberOf Contradiction = 19
 numberOf State = 20
 numberOf Mismatch = 21
 numberOf TooMany = 22
+numberOf NoSuchPosition = 23

@@ -1,4 +1,3 @@
--- The code's own vocabulary: what its inner functions answer and its arrays hold. Laws tie it to the definitions beside it.
+-- The code's own vocabulary: how it counts, and what its arrays hold. Laws tie it to the definitions beside it.
 pub mod Steps
 pub mod Arrays
-pub mod Reaching

@@ -1,8 +1,6 @@
 // What the byte of a position in the P body says. Every function is total: a position that does not exist is of no kind.
-use crate::limits::MOST_POSITIONS;
 ghost use mathlib.Core.Path.{_≡_};
 ghost use Rattle.sheet.specs.Kinds.{kindOf, kindAt, knownAt, controllerAt, environmentAt, safeAt};
-ghost use Rattle.sheet.specs.Checks.{positionsOk};
 ghost use Rattle.theory.specs.Delay.{onRight};
 
 pub enum Kind {
@@ -90,7 +88,7 @@ pub fn on_right(p: &[u8], odd: bool, q: usize) -> bool
     controller_at(p, q)
 }
 
-pub(crate) fn known_at(p: &[u8], q: usize) -> bool
+pub fn known_at(p: &[u8], q: usize) -> bool
     ensures { λ r. ⌜ r ≡ knownAt (now (p .entry)) q ⌝ }
 {
     match kind_at(p, q) {
@@ -100,23 +98,4 @@ pub(crate) fn known_at(p: &[u8], q: usize) -> bool
         } => true,
         Kind::Invalid => false,
     }
-}
-
-// Check 2.
-pub(crate) fn positions_ok(p: &[u8]) -> bool
-    ensures { λ r. ⌜ r ≡ positionsOk (now (p .entry)) ⌝ }
-{
-    let n = p.len();
-    if n < 1 {
-        return false;
-    }
-    if MOST_POSITIONS < n {
-        return false;
-    }
-    for q in 0..n {
-        if !known_at(p, q) {
-            return false;
-        }
-    }
-    true
 }

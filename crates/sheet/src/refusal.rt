@@ -25,6 +25,7 @@ pub enum Refusal {
     State,
     Mismatch,
     TooMany,
+    NoSuchPosition,
 }
 
 impl Refusal {
@@ -55,6 +56,7 @@ impl Refusal {
             Refusal::State => 20,
             Refusal::Mismatch => 21,
             Refusal::TooMany => 22,
+            Refusal::NoSuchPosition => 23,
         }
     }
 }

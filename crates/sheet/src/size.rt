@@ -1,13 +1,9 @@
-// How many nodes and first words there are, and check 7.
+// How many nodes and first words there are.
 use crate::form::wide;
-use crate::limits::MOST_NODES;
 use crate::limits::MOST_POWER;
 ghost use mathlib.Core.Path.{_≡_};
 ghost use Prim.Native.Nat.{_*_, _/_, _≤_};
-ghost use lib.ListN.{length};
 ghost use Rattle.theory.specs.Strategy.{initialLength};
-ghost use Rattle.sheet.specs.Limits.{mostPositions};
-ghost use Rattle.sheet.specs.Checks.{sizeOk};
 ghost use Rattle.sheet.specs.code.Steps.{powerTo, mostPower};
 
 // A power, or 65,536 where it is more: then no product wraps, for any base and exponent.
@@ -35,12 +31,4 @@ pub fn words_at(actions: u8, delay: u8) -> usize
     ensures { λ r. ⌜ (r ≡ powerTo actions (initialLength delay)) × (r ≤ mostPower) ⌝ }
 {
     power(actions, (wide(delay) + 1) / 2)
-}
-
-// Check 7.
-pub(crate) fn size_ok(p: &[u8], actions: u8, delay: u8) -> bool
-    requires { ⌜ length (now p) ≤ mostPositions ⌝ }
-    ensures { λ r. ⌜ r ≡ sizeOk (now (p .entry)) actions delay ⌝ }
-{
-    nodes_at(p.len() as u16, actions, delay) <= MOST_NODES
 }

@@ -6,7 +6,7 @@ use Rattle.theory.specs.Answer.{accepted}
 use Rattle.theory.specs.Delay.{answer}
 use Rattle.theory.proofs.Answer.{check-accepted, accepted-same, accepted-on}
 use Rattle.sheet.specs.Bodies.{delayOf}
-use Rattle.sheet.specs.Reading.{readAnswer}
+use Rattle.reader.specs.Reading.{readAnswer}
 use Rattle.sheet.specs.SheetGame.{gameOf}
 use Rattle.solver.specs.Solving.{Solved, solveAnswer}
 

@@ -30,7 +30,7 @@ use Rattle.sheet.specs.Limits.{mostNodes}
 use Rattle.solver.specs.code.Work.{Work, spoilRowTo}
 use Rattle.solver.specs.code.Sweep.{Fitted}
 use Rattle.solver.specs.code.Block.{blockedAt, noWay, blockTo, blocksTo}
-use Rattle.solver.proofs.RoundLaws.{spoilt-more}
+use Rattle.theory.proofs.Rounds.{spoilt-more}
 use Rattle.solver.proofs.BlockLaws.{row-position, row-step, even-outcomes, played-none}
 
 -- nothing is fallen by round 0

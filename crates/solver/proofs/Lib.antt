@@ -1,6 +1,4 @@
 -- Laws of the definitions of specs/, on which the proofs of the functions rest.
-pub mod GoodLaws
-pub mod MaskLaws
 pub mod BitLaws
 pub mod StateLaws
 pub mod RoundLaws
@@ -22,5 +20,4 @@ pub mod SearchLaws
 pub mod LevelLaws
 pub mod Accepted
 pub mod SolveLaws
-pub mod FlagLaws
 pub mod Cases

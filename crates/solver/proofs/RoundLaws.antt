@@ -1,8 +1,8 @@
 -- A round that is worked to its end leaves the next round's ranks, and the last one leaves the final ranks and the masks.
 -- Assumes nothing.
 use Prim.Native.Nat.{ℕ, zero, suc, _+_, _^_, _≤_, _<_}
-use mathlib.Core.Path.{_≡_, refl, sym, _∙_, ap}
-use mathlib.Core.Bool.{Bool, true, false, not, cond}
+use mathlib.Core.Path.{_≡_, sym, _∙_, ap}
+use mathlib.Core.Bool.{true, false, not, cond}
 use mathlib.Core.Logic.{_⊎_, inl, inr, ⊎-elim}
 use mathlib.Core.List.{List, List·Memᴰ}
 use native.Mathlib.Omega.{arith}
@@ -14,20 +14,11 @@ use Rattle.theory.specs.Fold.{both, allBelow, tabulate}
 use Rattle.theory.specs.Game.{Target, absent, to}
 use Rattle.theory.specs.Rounds.{Arena, bad, spoiltBy, fell, falls, rankIn, ranksAfter, finalRanks, keptBy, maskBelow, maskAt, masksBy, masks}
 use Rattle.theory.specs.Table.{bit}
-use Rattle.theory.proofs.Fold.{bool, not-both, below?, same-test, both-none, both-false, both-true, all-at, all-below, any-of-some, any-of-holds, length-tabulate, getD-tabulate}
-use Rattle.theory.proofs.Rounds.{fell-true, fell-false, fell-rank, stood-rank, in-fallen, in-fell, in-stands, length-after, rank-suc, rank-le, final-is}
+use Rattle.theory.proofs.Fold.{bool, not-both, below?, same-test, both-none, both-false, both-true, all-at, all-below, any-of-some, length-tabulate, getD-tabulate}
+use Rattle.theory.proofs.Rounds.{spoilt-more, fell-true, fell-false, fell-rank, stood-rank, in-fallen, in-fell, in-stands, length-after, rank-suc, rank-le, final-is}
 use Rattle.theory.proofs.Masks.{bits-ext, zero-bit, mask-lt, mask-bit}
 use Rattle.solver.specs.code.Work.{Work}
 use Rattle.solver.proofs.StateLaws.{rankOf, maskOf, Segment, Fresh, Good, Went}
-
--- what is spoilt stays spoilt when more has fallen
-pub spoilt-more : (E : Arena) (f g : ℕ → Bool) (k c : ℕ) → ((j : ℕ) → f j ≡ true → g j ≡ true) → spoiltBy E f k c ≡ true → spoiltBy E g k c ≡ true
-unfolding spoiltBy bad
-spoilt-more E f g k c more e = let s = any-of-some (bad f) (E .step k c) e in any-of-holds (bad g) (s .1) (worse (s .0) (s .2))
-  where
-    worse : (o : Target) → bad f o ≡ true → bad g o ≡ true
-    worse absent h = refl
-    worse (to j) h = more j h
 
 -- every action with this outcome is marked
 pub record Marked (E : Arena) (w : Work) (o : Target) : Type 0 where

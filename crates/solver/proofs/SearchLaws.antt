@@ -16,21 +16,21 @@ use Rattle.theory.specs.Delay.{wins, losing, words, arena, winning, answer}
 use Rattle.theory.proofs.Fold.{below?}
 use Rattle.theory.proofs.Rounds.{final-length}
 use Rattle.theory.proofs.Monotone.{answer-wins, answer-found}
-use Rattle.sheet.specs.Checks.{nodesOf}
+use Rattle.sheet.specs.Size.{nodesOf}
 use Rattle.walk.specs.declared.level.Level.{Level}
 use Rattle.walk.specs.code.Levels.{arenaOf}
 use Rattle.sheet.specs.code.Arrays.{viewOf}
 use Rattle.walk.specs.code.Nodes.{Sized}
 use Rattle.rounds.specs.code.Falling.{AtMost}
 use Rattle.walk.specs.code.Levels.{Room, levelAt, levelTo}
-use Rattle.solver.specs.code.Kept.{goodIn, firstWords}
+use Rattle.region.specs.code.Kept.{goodIn, firstWords, someGood}
 use Rattle.solver.specs.Solving.{solvedDelay}
 use Rattle.solver.specs.code.Working.{Levelable}
 use Rattle.solver.proofs.SheetLaws.{levelable}
 use Rattle.solver.specs.code.Search.{verdictBy, Stopped, Leveled, MasksStopped, Searchable}
 use Rattle.theory.specs.Buffer.{over}
 use Rattle.walk.proofs.LevelLaws.{level-whole, nodes-less, room-less, level-sized, arena-is, nodes-is}
-use Rattle.solver.proofs.GoodLaws.{winning-is}
+use Rattle.region.proofs.GoodLaws.{good-known, winning-is}
 use Rattle.sheet.specs.Limits.{mostPositions}
 
 -- every delay below d wins, and nothing beyond the nodes of delay d has changed
@@ -51,7 +51,7 @@ module _ (p : List ℕ) (g : List (List ℕ)) (u f : List ℕ) (start actions de
   abbrev nodes : ℕ
   nodes = nodesOf (length p) actions d
 
-  pub room-here : Room (length p) actions d
+  room-here : Room (length p) actions d
   room-here = room-less room (searched .asked)
 
   fit : nodes ≤ length old
@@ -66,10 +66,10 @@ module _ (p : List ℕ) (g : List (List ℕ)) (u f : List ℕ) (start actions de
   whole : {l : Level} → l ≡ levelTo (length p) start actions d → l ≡ levelAt (length p) start actions d
   whole made = made ∙ level-whole room-here start
 
-  pub level-here : {l : Level} → l ≡ levelTo (length p) start actions d → Sized (length p) l
+  level-here : {l : Level} → l ≡ levelTo (length p) start actions d → Sized (length p) l
   level-here made = rw (whole made) (level-sized room-here start)
 
-  pub start-here : {l : Level} → l ≡ levelTo (length p) start actions d → start < 256 → l .start < mostPositions
+  start-here : {l : Level} → l ≡ levelTo (length p) start actions d → start < 256 → l .start < mostPositions
   start-here made h = rw made (omega arith)
 
   pub fits-here : {l : Level} → l ≡ levelTo (length p) start actions d → l .nodes ≤ length old
@@ -129,11 +129,11 @@ module _ (p : List ℕ) (g : List (List ℕ)) (u f : List ℕ) (start actions de
     most-here : AtMost n (finalRanks (arena G d))
     most-here = rw (← ranks-here) (ranked .most)
 
-    module _ {r : Bool} (some : r ≡ anyBelow (goodIn p g l (take (l .nodes) after)) (firstWords l)) where
+    module _ {r : Bool} (low : start < 256) (some : r ≡ someGood p g l (take (l .nodes) after)) where
       tested : r ≡ winning G d
       tested =
           winning-is p g u f start actions d ranks-here
-          (some
+          (good-known p g l _ (level-here made) (start-here made low) some
           ∙ ap (λ x. anyBelow (goodIn p g l x) (firstWords l)) front-here
           ∙ ap (λ x. anyBelow (goodIn p g x ranks) (firstWords x)) is)
 
@@ -300,9 +300,6 @@ pub ruleset upward = (
   masks-length,
   beyond-next,
   masks-stop,
-  room-here,
-  level-here,
-  start-here,
   fits-here,
   front-length,
   after-length,

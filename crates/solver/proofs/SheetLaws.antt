@@ -14,9 +14,9 @@ use Rattle.theory.proofs.Fold.{bool, not-both, same?, below?}
 use Rattle.sheet.specs.SheetGame.{movesIn, movesOf, gameOf}
 use Rattle.sheet.specs.Bodies.{movesBody}
 use Rattle.sheet.specs.code.Arrays.{viewOf, toAt, lineCount}
-use Rattle.sheet.specs.code.Steps.{Checked}
-use Rattle.sheet.proofs.Accepted.{ranges}
-use Rattle.sheet.proofs.Legality.{move-of}
+use Rattle.reader.specs.code.Steps.{Checked}
+use Rattle.reader.proofs.Accepted.{ranges}
+use Rattle.reader.proofs.Legality.{move-of}
 use Rattle.walk.specs.declared.level.Level.{Level}
 use Rattle.walk.specs.code.Levels.{Room, levelAt}
 use Rattle.walk.proofs.LevelLaws.{level-sized}

@@ -21,31 +21,31 @@ use Rattle.theory.proofs.Rounds.{final-length}
 use Rattle.theory.proofs.Region.{length-masks}
 use Rattle.theory.proofs.Monotone.{answer-least}
 use Rattle.sheet.specs.Form.{partAt}
-use Rattle.sheet.specs.Checks.{nodesOf}
+use Rattle.sheet.specs.Size.{nodesOf}
 use Rattle.sheet.specs.Refusals.{numberOf}
-use Rattle.sheet.specs.Bodies.{delayOf, positionsBody}
-use Rattle.sheet.specs.Reading.{readAnswer, refusalNumber}
-use Rattle.sheet.specs.Reading as reading
+use Rattle.sheet.specs.Bodies.{delayOf}
+use Rattle.reader.specs.Reading.{readAnswer, refusalNumber}
+use Rattle.reader.specs.Reading as reading
 use Rattle.sheet.specs.SheetGame.{gameOf}
 use Rattle.sheet.specs.code.Arrays.{gridOf, viewOf, firstsOf, bodiesGame}
 use Rattle.sheet.specs.declared.refusal.Refusal.{Refusal}
 use Rattle.sheet.specs.declared.refusal.Refusal.the-variants.{Buffers}
-use Rattle.sheet.specs.declared.reading.Layout.{Layout}
-use Rattle.sheet.specs.declared.reading.Reading.{Reading}
-use Rattle.sheet.specs.declared.reading.Reading.the-variants.{Accepted, Refused}
-use Rattle.sheet.proofs.Accepted.{read-is, ranges, few-nodes, carries, arena-nodes}
-use Rattle.sheet.proofs.Legality.{legal-game}
+use Rattle.reader.specs.declared.reading.Layout.{Layout}
+use Rattle.reader.specs.declared.reading.Reading.{Reading}
+use Rattle.reader.specs.declared.reading.Reading.the-variants.{Accepted, Refused}
+use Rattle.reader.proofs.Accepted.{read-is, carries, arena-nodes}
+use Rattle.reader.proofs.Legality.{legal-game}
 use Rattle.walk.specs.declared.level.Level.{Level}
 use Rattle.walk.specs.code.Levels.{arenaOf}
 use Rattle.walk.specs.code.Nodes.{Sized}
 use Rattle.rounds.specs.code.Falling.{AtMost}
 use Rattle.solver.specs.declared.delays.Stop.{Stop}
 use Rattle.walk.specs.code.Levels.{Room, levelAt, levelTo}
+use Rattle.region.proofs.ReadLaws.{room-read, game-read, is-level}
 use Rattle.solver.specs.Solving.{solveAnswer, solvedDelay, masksLeft, ranksLeft}
 use Rattle.solver.specs.code.Search.{verdictBy, Stopped, MasksStopped, Searchable, Fillable, Filled}
 use Rattle.theory.specs.Buffer.{over}
 use Rattle.walk.proofs.LevelLaws.{level-whole, nodes-less, room-less, level-sized, arena-is, nodes-is}
-use Rattle.sheet.proofs.Bodies.{bodies-game}
 use Rattle.solver.specs.code.Chains.{Indexed, Linked}
 use Rattle.solver.proofs.ChainLaws.{linked-none}
 use Rattle.solver.proofs.SheetLaws.{sheet-lines}
@@ -232,37 +232,14 @@ module _ (s : List ℕ) (rd : Reading) (e : reading.readingMeans rd ≡ readAnsw
     answered : readAnswer s ≡ accepted l
     answered = sym e ∙ ap reading.readingMeans a
 
-    positions-is : p ≡ positionsBody s
-    positions-is = ep ∙ carries s l answered .positions-part
-
-    pub room-read : Room (length p) (l .actions) (l .delay)
-    room-read =
-        let r = ranges s (read-is s l answered .0) in
-        let c = carries s l answered in
-        rw (positions-is, c .actions, c .delay)
-        (record {
-          some-position = r .some-position;
-          few-positions = r .few-positions;
-          some-action = r .some-action;
-          few-actions = r .few-actions;
-          few-nodes = few-nodes s l answered;
-        })
-
-    pub game-read : (c u : List ℕ) → c ≡ partAt s (l .targets) → u ≡ partAt s (l .moves)
-        → bodiesGame p c u (l .start) (l .actions) ≡ gameOf s
-    game-read c u ec eu =
-        let x = carries s l answered in
-        rw (positions-is, ec, eu, x .targets-part, x .moves-part, x .start, x .actions) (bodies-game s (read-is s l answered .0))
-
     module _ (v : Level) (made : v ≡ levelTo (length p) (l .start) (l .actions) (l .delay)) where
-      pub is-level : v ≡ levelAt (length p) (l .start) (l .actions) (l .delay)
-      is-level = made ∙ level-whole room-read (l .start)
+      nodes-made : v .nodes ≡ nodesOf (length p) (l .actions) (l .delay)
+      nodes-made = ap (λ (x : Level). x .nodes) (is-level s rd e l a p ep v made)
 
       nodes-read : v .nodes ≡ arena (gameOf s) (delayOf s) .nodes
       nodes-read =
           let c = carries s l answered in
-          ap (λ (x : Level). x .nodes) is-level
-          ∙ rw (positions-is, c .actions, c .delay) (sym (arena-nodes s (delayOf s)))
+          nodes-made ∙ rw (ep ∙ c .positions-part, c .actions, c .delay) (sym (arena-nodes s (delayOf s)))
 
       abbrev owed : ℕ
       owed = arena (gameOf s) (delayOf s) .nodes
@@ -311,13 +288,16 @@ module _ (s : List ℕ) (rd : Reading) (e : reading.readingMeans rd ≡ readAnsw
             let n = nodes-read in
             rw answered (check-passed _ 8 _ (both-true _ _ (le-leb owed (length m) (omega arith)) (le-leb owed (length k) (omega arith))))
 
+        same-game : bodiesGame p c u (l .start) (l .actions) ≡ gameOf s
+        same-game = game-read s rd e l a p ep c u ec eu
+
         pub fillable-read : Fillable p c u (l .start) (l .actions) (l .delay) m k
         fillable-read =
-            let n = ap (λ (x : Level). x .nodes) is-level in
+            let n = nodes-made in
             record {
-              room = room-read;
-              legal = rw (game-read c u ec eu) (legal-game s l answered);
-              moves = rw (game-read c u ec eu, eu ∙ carries s l answered .moves-part) (sheet-lines s (read-is s l answered .0));
+              room = room-read s rd e l a p ep;
+              legal = rw same-game (legal-game s l answered);
+              moves = rw (same-game, eu ∙ carries s l answered .moves-part) (sheet-lines s (read-is s l answered .0));
               masks-room = omega arith;
               ranks-room = omega arith;
             }
@@ -325,7 +305,7 @@ module _ (s : List ℕ) (rd : Reading) (e : reading.readingMeans rd ≡ readAnsw
         -- after filling
         module _ (m′ k′ : List ℕ) (r : Stop) (filled : Filled (bodiesGame p c u (l .start) (l .actions)) (l .delay) m k m′ k′ r) where
           filled-read : Filled (gameOf s) (delayOf s) m k m′ k′ r
-          filled-read = rw (game-read c u ec eu, carries s l answered .delay) at filled
+          filled-read = rw (same-game, carries s l answered .delay) at filled
 
           stop-is : r .delay ≡ solvedDelay (delayOf s) (answer (gameOf s) (delayOf s))
           stop-is = filled-read .stopped .delay
@@ -367,7 +347,6 @@ pub ruleset solving = (
   handed-on,
   masks-untouched,
   ranks-untouched,
-  room-read,
   masks-refused,
   ranks-refused,
   masks-kept-1,

@@ -14,7 +14,7 @@ use borrow.Author.Tests.{eq-eqb, ne-eqb, lt-ltb, not-true}
 use Rattle.theory.specs.Fold.{count}
 use Rattle.theory.specs.Rounds.{Arena, spoiltBy, fell, ranksAfter}
 use Rattle.theory.specs.Table.{bit}
-use Rattle.theory.proofs.Fold.{bool, not-both, below?, same?, count-less}
+use Rattle.theory.proofs.Fold.{bool, not-both, below?, same?, stored, count-less}
 use Rattle.theory.proofs.Rounds.{fell-true, fell-false, stood-rank}
 use Rattle.theory.proofs.Masks.{zero-bit}
 use Rattle.solver.specs.code.Work.{Work, work, fallTo, leaveTo, markTo, marksTo, spoilAllTo}
@@ -79,14 +79,6 @@ went-on a b =
       queue = λ i h. b .queue i (omega arith) ∙ a .queue i h;
       tail = omega arith;
     }
-
--- an entry of a list after a store: the stored one, or the old one
-stored : (l : List ℕ) (i v j : ℕ) → i < length l → ((j ≡ i) × (getD (set l i v) j 0 ≡ v)) ⊎ ((j ≡ i → ⊥) × (getD (set l i v) j 0 ≡ getD l j 0))
-stored l i v j h =
-    ⊎-elim
-    (λ (e : j ≡ i). inl (e, rw e (getD-set-same l i v 0 h)))
-    (λ d. inr (d, getD-set-other l i j v 0 d))
-    (same? j i)
 
 -- one node less stands
 fewer : (ranks : List ℕ) (nodes k r : ℕ) → length ranks ≡ nodes → k < nodes → getD ranks k 0 ≡ 0

@@ -10,9 +10,9 @@ use Rattle.theory.specs.Answer.{Answer, refused, accepted, check, onAccepted}
 use Rattle.theory.specs.Rounds.{masks, finalRanks}
 use Rattle.theory.specs.Delay.{Verdict, wins, losing, arena, answer}
 use Rattle.sheet.specs.Bodies.{delayOf}
-use Rattle.sheet.specs.Reading.{readAnswer}
+use Rattle.reader.specs.Reading.{readAnswer}
 use Rattle.sheet.specs.SheetGame.{gameOf}
-use Rattle.sheet.specs.declared.reading.Layout.{Layout}
+use Rattle.reader.specs.declared.reading.Layout.{Layout}
 use Rattle.solver.specs.declared.solve.Solution.{Solution}
 use Rattle.solver.specs.declared.solve.Solution.the-variants.{Winning, Losing, Refused}
 

@@ -1,8 +1,6 @@
 -- The code's own vocabulary: what the solver's inner functions find. Laws tie it to theory's definitions.
 pub mod Sizes
-pub mod Kept
 pub mod Search
-pub mod Flags
 pub mod Work
 pub mod Chains
 pub mod Spread

@@ -2,7 +2,7 @@
 // of the two buffers is touched.
 use crate::levels::solve_level;
 use crate::spread::CELLS;
-use crate::words::some_good;
+use region::words::some_good;
 use sheet::limits::INDEX;
 use sheet::limits::MOST_MOVES;
 use sheet::limits::ROW;

@@ -1,7 +1,7 @@
 // One delay's nodes: by plain rounds where no word is pending, else by the worklist.
-use crate::masks::fill_masks;
 use crate::spread::CELLS;
 use crate::work::work;
+use region::masks::fill_masks;
 use rounds::rounds::rounds;
 use sheet::limits::INDEX;
 use sheet::limits::MOST_MOVES;

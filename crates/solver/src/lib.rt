@@ -1,5 +1,4 @@
 // Solving: document 01's table and answer at every delay, from a game sheet's bytes (refusals 1 to 8).
-pub mod masks; // what the nodes allow
 pub mod index; // the chains of lines and cells
 pub mod mark; // one action of one node
 pub mod spread; // the nodes before a fallen one
@@ -8,6 +7,5 @@ pub mod first; // round 1
 pub mod block; // round 2, where no action can be played
 pub mod work; // all rounds of a delay by the worklist
 pub mod levels; // one delay's nodes
-pub mod words; // good first words
 pub mod delays; // from delay 0 upward
 pub mod solve; // solving a sheet

@@ -24,7 +24,7 @@ use Rattle.theory.proofs.Answer.{check-passed, check-failed, check-both}
 use Rattle.theory.proofs.Fold.{below?, both-true, both-false, both-left, both-right, all-none, all-suc, all-below, any-none, any-holds, any-again, any-done, both-none, both-second, failed, passed}
 use Rattle.sheet.specs.Limits.{width, mostActions, mostDelay, mostNodes}
 use Rattle.sheet.specs.Form.{contentsOk, placedAt, partAt, bodyOf}
-use Rattle.sheet.specs.Checks.{nodesOf}
+use Rattle.sheet.specs.Size.{nodesOf}
 use Rattle.sheet.specs.code.Steps.{powerTo, mostPower}
 use Rattle.sheet.specs.Refusals.{numberOf}
 use Rattle.sheet.specs.declared.form.Place.{Place}

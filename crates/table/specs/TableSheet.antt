@@ -11,7 +11,7 @@ use Rattle.theory.specs.Strategy.{initialLength}
 use Rattle.theory.specs.Table.{Table, flagged}
 use Rattle.sheet.specs.Limits.{width, mostActions, mostDelay, mostNodes}
 use Rattle.sheet.specs.Form.{contentsOk, placedAt, partAt, bodyOf}
-use Rattle.sheet.specs.Checks.{nodesOf}
+use Rattle.sheet.specs.Size.{nodesOf}
 use Rattle.sheet.specs.Refusals.{numberOf}
 use Rattle.table.specs.declared.reading.TableLayout.{TableLayout}
 use Rattle.table.specs.declared.reading.TableReading.{TableReading}

@@ -150,7 +150,7 @@ pub fn read_shape(sheet: &[u8]) -> TableReading
 }
 
 // Is some byte of the W body not 0?
-fn some_flagged(w: &[u8]) -> bool
+pub fn some_flagged(w: &[u8]) -> bool
     ensures { λ r. ⌜ r ≡ someFlagged (record { flags = now (w .entry); masks = [] }) ⌝ }
 {
     for v in 0..w.len() {

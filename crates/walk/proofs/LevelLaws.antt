@@ -12,7 +12,7 @@ use borrow.Author.Needs.{needs}
 use borrow.Author.Tests.{le-leb}
 use Rattle.theory.specs.Delay.{odd, words, arena}
 use Rattle.sheet.specs.Limits.{mostNodes}
-use Rattle.sheet.specs.Checks.{nodesOf}
+use Rattle.sheet.specs.Size.{nodesOf}
 use Rattle.sheet.specs.code.Steps.{powerTo, mostPower}
 use Rattle.sheet.specs.code.Arrays.{viewOf}
 use Rattle.walk.specs.code.Levels.{levelAt, levelTo, Room, arenaOf}

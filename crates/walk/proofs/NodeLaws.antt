@@ -1,15 +1,15 @@
--- The tests that a level is small and that a node exists (specs/code/Nodes.antt). Assumes nothing.
+-- The tests that a level is small, that a buffer fits it and that a node exists (specs/code/Nodes.antt). Assumes nothing.
 use Prim.Native.Nat.{ℕ, _*_, _≤_, _<_}
 use mathlib.Core.Path.{_≡_, sym, _∙_}
 use mathlib.Core.Bool.{Bool, true, false, not}
 use mathlib.Core.Logic.{⊎-elim}
 use lib.Dec.{eqb, ltb}
 use borrow.Author.Needs.{needs}
-use borrow.Author.Tests.{eqb-true, leb-true, ltb-true, eq-eqb, le-leb, lt-ltb, le-ltb}
+use borrow.Author.Tests.{eqb-true, leb-true, ltb-true, eq-eqb, ne-eqb, le-leb, lt-ltb, le-ltb}
 use Rattle.theory.specs.Fold.{both}
 use Rattle.theory.proofs.Fold.{bool, both-true, both-left, both-right, both-none, both-false, both-second, failed, passed}
 use Rattle.walk.specs.declared.level.Level.{Level}
-use Rattle.walk.specs.code.Nodes.{Sized, isSized, isNode}
+use Rattle.walk.specs.code.Nodes.{Sized, isSized, isFitted, isNode}
 use Rattle.sheet.specs.Limits.{mostPositions, mostActions, mostNodes}
 
 module _ (positions : ℕ) (l : Level) where
@@ -37,6 +37,21 @@ module _ (positions : ℕ) (l : Level) where
         all-nodes = eqb-true _ _ (both-right _ _ d);
         few-nodes = leb-true _ _ (both-left _ _ d);
       }
+
+  pub sized-level : {r : Bool} → r ≡ isSized positions l → not r ≡ false → Sized positions l
+  sized-level e n = tested-sized (passed e n)
+
+  pub fitted : (entries : ℕ) → Sized positions l → entries ≡ l .nodes → isFitted positions l entries ≡ true
+  unfolding isFitted
+  fitted entries s e = both-true _ _ (sized-tested s) (eq-eqb _ _ e)
+
+  pub level-unfit : (entries : ℕ) {r : Bool} → r ≡ isSized positions l → not r ≡ true → isFitted positions l entries ≡ false
+  unfolding isFitted
+  level-unfit entries e n = both-none _ _ (failed e n)
+
+  pub buffer-unfit : (entries : ℕ) → (entries ≡ l .nodes → ⊥) → isFitted positions l entries ≡ false
+  unfolding isFitted
+  buffer-unfit entries n = both-false _ _ (ne-eqb _ _ n)
 
   -- a bound that does not hold, and the product where all do
 

@@ -16,8 +16,14 @@ use Rattle.theory.proofs.Answer.{check-passed}
 use Rattle.theory.proofs.Tables.{legal-actions}
 use Rattle.sheet.specs.Limits.{width, mostPositions, mostActions, mostDelay, mostNodes, mostWords}
 use Rattle.sheet.specs.Form.{entrySize, contentsOk, bodyOf, Part, part}
-use Rattle.sheet.specs.Checks.{nodesOf}
+use Rattle.sheet.specs.Size.{nodesOf}
+use Rattle.sheet.specs.Bodies.{delayOf}
+use Rattle.sheet.specs.SheetGame.{gameOf}
 use Rattle.sheet.proofs.SizeLaws.{few-first-words}
+use Rattle.reader.specs.Reading.{readAnswer}
+use Rattle.reader.specs.declared.reading.Layout.{Layout}
+use Rattle.reader.proofs.Accepted.{read-is, ranges, few-nodes, arena-nodes}
+use Rattle.reader.proofs.Legality.{legal-game}
 use Rattle.table.specs.TableSheet.{tableLetters, tableLayout, decode, tableNodes, numbersOk, belowAt, bytesBelow, bodiesOk, shapeAnswer, someFlagged, tableAnswer}
 use Rattle.writer.specs.SheetBytes.{headerOf, tableBytes, tableSheet, tableSaid}
 use Rattle.writer.proofs.Sheets.{before, length-sheet, body-is, contents-ok}
@@ -29,6 +35,19 @@ pub record Ranged (G : Game) (d : ℕ) : Type 0 where
   pub few-actions : G .actions ≤ mostActions
   pub short-delay : d ≤ mostDelay
   pub few-nodes : arena G d .nodes ≤ mostNodes
+
+-- an accepted game sheet's numbers
+pub sheet-ranged : (s : List ℕ) (l : Layout) → readAnswer s ≡ accepted l → Ranged (gameOf s) (delayOf s)
+unfolding gameOf
+sheet-ranged s l e =
+    let r = ranges s (read-is s l e .0) in
+    record {
+      legal = legal-game s l e;
+      few-positions = r .few-positions;
+      few-actions = r .few-actions;
+      short-delay = r .short-delay;
+      few-nodes = rw (arena-nodes s (delayOf s)) (few-nodes s l e);
+    }
 
 pub few-words : (G : Game) (d : ℕ) → Ranged G d → initialWords G d ≤ mostWords
 unfolding initialWords

@@ -74,7 +74,7 @@ pub table-is : (h w t : List ℕ) (p : Page) {q₁ q₂ q₃ q₄ : Page} → q�
 table-is h w t p {q₁} {q₂} {q₃} e₁ e₂ e₃ e₄ =
     after p _ _ e₁ (after q₁ _ _ e₂ (after q₂ _ (h ++ (w ++ t)) e₃ e₄)) ∙ ap (puts p) (sym (table-text h w t))
 
-table-size : (h w t : List ℕ) → length (tableBytes h w t) ≡ 15 + (length h + length w + length t)
+pub table-size : (h w t : List ℕ) → length (tableBytes h w t) ≡ 15 + (length h + length w + length t)
 unfolding tableBytes entrySize before
 table-size h w t = length-sheet 2 (part 83 h ∷ part 87 w ∷ part 84 t ∷ []) ∙ omega arith
 

@@ -20,6 +20,9 @@ const TABLE_CONTENTS: usize = 15;
 
 const TABLE_ROOM: usize = 65520;
 
+// The contents and the S body of a table sheet.
+pub const TABLE_START: usize = 19;
+
 // The same of a rank sheet.
 const RANK_CONTENTS: usize = 10;
 

@@ -6,7 +6,7 @@ use Rattle.theory.specs.Answer.{Answer, refused, accepted}
 use Rattle.theory.specs.Judging.{Ruling, sound, badWord, badNode}
 use Rattle.sheet.specs.Limits.{width}
 use Rattle.sheet.specs.Form.{part, sheetOf}
-use Rattle.sheet.specs.cases.Yards.{guess, loop, hall}
+use Rattle.reader.specs.cases.Yards.{guess, loop, hall}
 
 pub record Case : Type 0 where
   pub sheet : List ℕ
@@ -24,14 +24,17 @@ tableFrom h w t = sheetOf width (part 83 h ∷ part 87 w ∷ part 84 t ∷ [])
 unfoldable pub hallBy : ℕ → List ℕ → List ℕ → List ℕ
 hallBy start w t = tableFrom (start ∷ 2 ∷ 2 ∷ 6 ∷ []) w t
 
+-- ours
+unfoldable pub hallOurs : List ℕ
+hallOurs = hallBy 0 (1 ∷ 1 ∷ []) (1 ∷ 1 ∷ 2 ∷ 2 ∷ 3 ∷ 0 ∷ 0 ∷ 3 ∷ 0 ∷ 0 ∷ 0 ∷ 0 ∷ 0 ∷ 0 ∷ [])
+
 -- less than ours: one first word, and of two commands always the lower
 unfoldable pub hallLess : List ℕ
 hallLess = hallBy 0 (1 ∷ 0 ∷ []) (1 ∷ 0 ∷ 2 ∷ 0 ∷ 1 ∷ 0 ∷ 0 ∷ 1 ∷ 0 ∷ 0 ∷ 0 ∷ 0 ∷ 0 ∷ 0 ∷ [])
 
 unfoldable pub cases : List Case
 cases =
-    -- ours
-    case (hall 2) (hallBy 0 (1 ∷ 1 ∷ []) (1 ∷ 1 ∷ 2 ∷ 2 ∷ 3 ∷ 0 ∷ 0 ∷ 3 ∷ 0 ∷ 0 ∷ 0 ∷ 0 ∷ 0 ∷ 0 ∷ [])) (accepted sound)
+    case (hall 2) hallOurs (accepted sound)
     ∷ case (hall 2) hallLess (accepted sound)
     -- a word whose pair has no mask
     ∷ case (hall 2) (hallBy 0 (1 ∷ 1 ∷ []) (1 ∷ 0 ∷ 2 ∷ 0 ∷ 1 ∷ 0 ∷ 0 ∷ 1 ∷ 0 ∷ 0 ∷ 0 ∷ 0 ∷ 0 ∷ 0 ∷ [])) (accepted (badWord 1))

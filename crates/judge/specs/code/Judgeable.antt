@@ -9,9 +9,9 @@ use Rattle.theory.specs.Answer.{Answer, accepted}
 use Rattle.theory.specs.Table.{Table, Fits}
 use Rattle.theory.specs.Judging.{Ruling, ruling}
 use Rattle.sheet.specs.Bodies.{delayOf}
-use Rattle.sheet.specs.Reading.{readAnswer}
+use Rattle.reader.specs.Reading.{readAnswer}
 use Rattle.sheet.specs.SheetGame.{gameOf}
-use Rattle.sheet.specs.declared.reading.Layout.{Layout}
+use Rattle.reader.specs.declared.reading.Layout.{Layout}
 use Rattle.table.specs.declared.reading.TableLayout.{TableLayout}
 
 -- the table of a W and a T body

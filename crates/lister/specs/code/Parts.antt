@@ -5,9 +5,9 @@ use Rattle.theory.specs.Fold.{tabulate}
 use Rattle.theory.specs.Strategy.{initialLength}
 use Rattle.sheet.specs.Bodies.{delayOf}
 use Rattle.sheet.specs.SheetGame.{gameOf}
-use Rattle.sheet.specs.declared.reading.Layout.{Layout}
+use Rattle.reader.specs.declared.reading.Layout.{Layout}
 use Rattle.text.specs.Lines.{startLines}
-use Rattle.solver.specs.code.Flags.{flagWith, flagsCount}
+use Rattle.region.specs.code.Flags.{flagWith, flagsCount}
 use Rattle.lister.specs.Listing.{wonText, lostText}
 
 -- the flags that the ranks give the first words of a sheet, in a buffer of so many entries

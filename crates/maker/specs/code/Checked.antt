@@ -11,11 +11,11 @@ use Rattle.theory.specs.Strategy.{initialLength}
 use Rattle.theory.specs.Rounds.{masks, finalRanks}
 use Rattle.theory.specs.Delay.{arena}
 use Rattle.sheet.specs.Limits.{mostPositions, mostActions, mostDelay}
-use Rattle.sheet.specs.Checks.{nodesOf}
+use Rattle.sheet.specs.Size.{nodesOf}
 use Rattle.sheet.specs.Bodies.{delayOf}
-use Rattle.sheet.specs.Reading.{readAnswer}
+use Rattle.reader.specs.Reading.{readAnswer}
 use Rattle.sheet.specs.SheetGame.{gameOf}
-use Rattle.sheet.specs.declared.reading.Layout.{Layout}
+use Rattle.reader.specs.declared.reading.Layout.{Layout}
 use Rattle.maker.specs.Making.{outputSize}
 
 -- what checks 2 and 3 leave of a layout's numbers

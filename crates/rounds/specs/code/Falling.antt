@@ -9,7 +9,7 @@ use Rattle.theory.specs.Fold.{both, allBelow, tabulate, anyBelow}
 use Rattle.theory.specs.Rounds.{Arena, spoiltBy, fell, falls, rankIn, finalRanks}
 use Rattle.sheet.specs.Kinds.{controllerAt, safeAt}
 use Rattle.walk.specs.declared.level.Level.{Level}
-use Rattle.walk.specs.code.Nodes.{isSized}
+use Rattle.walk.specs.code.Nodes.{isFitted}
 use Rattle.walk.specs.code.Walks.{fallenBy}
 use Rattle.theory.specs.Delay.{onRight}
 use Rattle.walk.specs.code.Levels.{arenaOf}
@@ -38,10 +38,6 @@ AtMost n ranks = (k : ℕ) → getD ranks k 0 ≤ n
 unfoldable pub lastRound : List ℕ → ℕ
 lastRound [] = 1
 lastRound (r ∷ ranks) = max r (lastRound ranks)
-
--- a level that is small, and a buffer with an entry for each of its nodes
-unfoldable pub isFitted : ℕ → Level → ℕ → Bool
-isFitted positions l entries = both (isSized positions l) (eqb entries (l .nodes))
 
 -- what all rounds leave, and the number of the last; nothing changed and 0 where level and buffer don't fit
 unfoldable pub Ranked : Bool → Arena → List ℕ → List ℕ → ℕ → Type 0

@@ -5,7 +5,7 @@ use mathlib.Core.List.{List, [], _∷_, _++_}
 use lib.ListN.{length, replicate}
 use Rattle.theory.specs.Answer.{Answer, refused, accepted, onAccepted}
 use Rattle.theory.specs.Delay.{Verdict, wins, losing}
-use Rattle.sheet.specs.cases.Yards.{guess}
+use Rattle.reader.specs.cases.Yards.{guess}
 use Rattle.solver.specs.Solving.{solveAnswer, masksLeft, ranksLeft}
 
 -- what solving says and leaves

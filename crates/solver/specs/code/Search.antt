@@ -8,7 +8,7 @@ use Rattle.theory.specs.Buffer.{over}
 use Rattle.theory.specs.Game.{Game, Legal}
 use Rattle.theory.specs.Rounds.{Arena, masks, finalRanks}
 use Rattle.theory.specs.Delay.{Verdict, wins, losing, words, arena, answer}
-use Rattle.sheet.specs.Checks.{nodesOf}
+use Rattle.sheet.specs.Size.{nodesOf}
 use Rattle.sheet.specs.code.Arrays.{viewOf, bodiesGame}
 use Rattle.walk.specs.declared.level.Level.{Level}
 use Rattle.walk.specs.code.Levels.{Room}

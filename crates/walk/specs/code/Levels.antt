@@ -5,7 +5,7 @@ use mathlib.Core.List.{List}
 use Rattle.theory.specs.Rounds.{Arena}
 use Rattle.theory.specs.Delay.{odd, arenaBy}
 use Rattle.sheet.specs.Limits.{mostPositions, mostActions, mostNodes}
-use Rattle.sheet.specs.Checks.{nodesOf}
+use Rattle.sheet.specs.Size.{nodesOf}
 use Rattle.sheet.specs.code.Steps.{powerTo, mostPower}
 use Rattle.sheet.specs.code.Arrays.{viewOf}
 use Rattle.walk.specs.declared.level.Level.{Level}

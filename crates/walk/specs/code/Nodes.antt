@@ -1,4 +1,4 @@
--- Which levels are small enough to walk, and which nodes exist. Assumes nothing.
+-- Which levels are small enough to walk, which buffers fit them, and which nodes exist. Assumes nothing.
 use Prim.Native.Nat.{ℕ, _*_, _≤_, _<_}
 use mathlib.Core.Path.{_≡_}
 use mathlib.Core.Bool.{Bool}
@@ -25,6 +25,10 @@ isSized positions l =
     (both (leb (l .words) mostNodes)
     (both (leb (l .nodes) mostNodes)
     (eqb (l .nodes) (positions * l .words))))))
+
+-- a level that is small, and a buffer with an entry for each of its nodes
+unfoldable pub isFitted : ℕ → Level → ℕ → Bool
+isFitted positions l entries = both (isSized positions l) (eqb entries (l .nodes))
 
 -- k is the number of a pair of that level
 unfoldable pub isNode : ℕ → Level → ℕ → Bool

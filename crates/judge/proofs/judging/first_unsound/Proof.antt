@@ -4,7 +4,7 @@ use mathlib.Core.Path.{_≡_}
 use mathlib.Core.Bool.{true}
 use Rattle.theory.specs.Fold.{allBelow}
 use Rattle.walk.specs.code.Levels.{arenaOf}
-use Rattle.judge.specs.code.Parts.{wholeAt}
+use Rattle.judge.specs.code.Tests.{wholeAt}
 use Rattle.judge.proofs.JudgeLaws.{searching}
 use Rattle.judge.proofs.judging.first_unsound.Statement.{statement}
 use Rattle.judge.proofs.judging.first_unsound.Tie as tie

@@ -4,7 +4,7 @@ use mathlib.Core.Path.{_≡_}
 use mathlib.Core.Bool.{true}
 use lib.ListN.{length}
 use Rattle.theory.specs.Fold.{allBelow}
-use Rattle.judge.specs.code.Parts.{flagStands}
+use Rattle.judge.specs.code.Tests.{flagStands}
 use Rattle.judge.proofs.JudgeLaws.{searching}
 use Rattle.judge.proofs.judging.first_wrong.Statement.{statement}
 use Rattle.judge.proofs.judging.first_wrong.Tie as tie

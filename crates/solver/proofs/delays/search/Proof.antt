@@ -1,7 +1,7 @@
 -- `search` meets its contract. Every delay below d wins, and nothing beyond the nodes of delay d has changed. Assumes nothing.
 use Prim.Native.Nat.{_-_}
 use lib.ListN.{length}
-use Rattle.sheet.specs.Checks.{nodesOf}
+use Rattle.sheet.specs.Size.{nodesOf}
 use Rattle.sheet.specs.code.Arrays.{viewOf}
 use Rattle.solver.proofs.SearchLaws.{Searched, Beyond, upward}
 use Rattle.solver.proofs.delays.search.Statement.{statement}

@@ -1,5 +1,5 @@
 -- `mask_level` meets its contract. Assumes nothing.
-use borrow.Author.Needs.{needs}
+use Rattle.solver.proofs.LevelLaws.{masking}
 use Rattle.solver.proofs.levels.mask_level.Statement.{statement}
 use Rattle.solver.proofs.levels.mask_level.Tie as tie
 
@@ -9,4 +9,4 @@ returns-2 c = c .before .before .before .before .before .before .pre .3 (c .if1 
 pub mask-level-spec : {M : Type 1} → statement M
 mask-level-spec =
     tie.close
-    (tie.spec (λ c κs. search needs) (λ c. search needs) (λ c. search needs) returns-2)
+    (tie.spec (λ c κs. search masking) (λ c. search masking) (λ c. search masking) returns-2)

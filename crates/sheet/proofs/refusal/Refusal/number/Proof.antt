@@ -1,5 +1,5 @@
--- `sheet::refusal::Refusal::number` meets its contract, by the laws of proofs/ReadLaws.antt. Assumes nothing.
-use Rattle.sheet.proofs.ReadLaws.{numbers}
+-- `sheet::refusal::Refusal::number` meets its contract, by the laws of proofs/RefusalLaws.antt. Assumes nothing.
+use Rattle.sheet.proofs.RefusalLaws.{numbers}
 use Rattle.sheet.proofs.refusal.Refusal.number.Statement.{statement}
 use Rattle.sheet.proofs.refusal.Refusal.number.Tie as tie
 
@@ -14,4 +14,5 @@ number-spec =
     (λ c. search numbers) (λ c. search numbers) (λ c. search numbers) (λ c. search numbers) (λ c. search numbers)
     (λ c. search numbers) (λ c. search numbers) (λ c. search numbers) (λ c. search numbers) (λ c. search numbers)
     (λ c. search numbers) (λ c. search numbers) (λ c. search numbers) (λ c. search numbers) (λ c. search numbers)
-    (λ c. search numbers) (λ c. search numbers) (λ c. search numbers) (λ c. search numbers) (λ c. search numbers))
+    (λ c. search numbers) (λ c. search numbers) (λ c. search numbers) (λ c. search numbers) (λ c. search numbers)
+    (λ c. search numbers) (λ c. search numbers))

@@ -1,0 +1,3 @@
+-- The code's own vocabulary: what its inner functions answer and what its search holds. Laws tie it to the definitions beside it.
+pub mod Steps
+pub mod Reaching

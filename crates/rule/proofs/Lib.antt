@@ -1,0 +1,2 @@
+-- Laws of specs/ on which the proofs of the functions rest.
+pub mod PartCode
