@@ -1,0 +1,3 @@
+-- Laws of specs/ on which the proofs of the functions rest.
+pub mod CutLaws
+pub mod PruneCode
