@@ -7,7 +7,7 @@ use Rattle.theory.specs.Answer.{accepted}
 use Rattle.theory.specs.Play.{Rule, IsRule}
 use Rattle.theory.specs.Judging.{sound}
 use Rattle.sheet.specs.SheetGame.{gameOf}
-use Rattle.sheet.proofs.Legality.{legal-game}
+use Rattle.reader.proofs.Legality.{legal-game}
 use Rattle.judge.specs.Judging.{judgeAnswer}
 use Rattle.judge.proofs.Accepted.{ruled}
 use Rattle.maker.specs.Making.{won, makeAnswer}
@@ -20,7 +20,7 @@ use Rattle.claims.proofs.Judged.{yes-sound, made-yes}
 pub accuracy : (s t : List ℕ) → judgeAnswer s t ≡ accepted sound → (rule : Rule) → IsRule (gameOf s) rule
     → (calls : List Call) → Truthful (gameOf s) t rule begun calls → Accurate (gameOf s) t rule calls
 accuracy s t e rule is calls h =
-    let said = ruled s t sound e in
+    let said = ruled s t sound e .sheets in
     accurate (gameOf s) t rule (legal-game s (said .layout) (said .reads)) (said .readable) (yes-sound s t e) is calls h
 
 -- so it holds of the sheets that we make

@@ -12,7 +12,7 @@ use Rattle.theory.specs.Game.{Game, Legal, to}
 use Rattle.theory.specs.Play.{last, IsRule}
 use Rattle.theory.proofs.Fold.{not-both}
 use Rattle.theory.proofs.Plays.{play-position}
-use Rattle.sheet.specs.cases.Yards.{hall}
+use Rattle.reader.specs.cases.Yards.{hall}
 use Rattle.sheet.specs.SheetGame.{gameOf}
 use Rattle.maker.proofs.Made.{making-won}
 use Rattle.maker.specs.Making.{won, makeAnswer}

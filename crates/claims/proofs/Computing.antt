@@ -1,6 +1,6 @@
 -- Names for what a table of cases computes with: to unfold one of them is to unfold every definition on its line. Assumes nothing.
 use mathlib.Core.Bool.{Bool, true}
-use Rattle.sheet.proofs.Computing.{sheet-computes}
+use Rattle.reader.proofs.Computing.{sheet-computes}
 use Rattle.controller.specs.Accuracy.{indicesIn, callStep, TrueReports, Truthful}
 use Rattle.solver.specs.Solving.{solveAnswer}
 use Rattle.theory.specs.Table.{ours}

@@ -20,10 +20,10 @@ use Rattle.theory.proofs.Tables.{step-legal}
 use Rattle.theory.proofs.OurTable.{allows-keeps}
 use Rattle.theory.proofs.Monotone.{answer-iff, answer-least}
 use Rattle.sheet.specs.Bodies.{delayOf}
-use Rattle.sheet.specs.Reading.{readAnswer}
+use Rattle.reader.specs.Reading.{readAnswer}
 use Rattle.sheet.specs.SheetGame.{gameOf}
-use Rattle.sheet.specs.declared.reading.Layout.{Layout}
-use Rattle.sheet.proofs.Legality.{legal-game}
+use Rattle.reader.specs.declared.reading.Layout.{Layout}
+use Rattle.reader.proofs.Legality.{legal-game}
 use Rattle.solver.specs.Solving.{Solved, solveAnswer, solvedDelay, masksLeft, ranksLeft}
 use Rattle.solver.proofs.Accepted.{solved-is}
 use Rattle.theory.specs.Buffer.{over}

@@ -19,10 +19,11 @@ use Rattle.theory.proofs.NodeStrategy.{lowestStrategy, lowest-obeys}
 use Rattle.theory.proofs.Judging.{word-good, word-offending, node-stands, node-offending, sound-judged, judged-sound, word-offends, node-offends}
 use Rattle.sheet.specs.Bodies.{delayOf}
 use Rattle.sheet.specs.SheetGame.{gameOf}
-use Rattle.sheet.proofs.Legality.{legal-game}
+use Rattle.reader.proofs.Legality.{legal-game}
 use Rattle.table.specs.TableSheet.{decode}
 use Rattle.judge.specs.Judging.{judgeAnswer}
 use Rattle.judge.proofs.Accepted.{Agrees, agrees-passes, Ruled, ruled, ruling-is}
+use Rattle.writer.specs.SheetBytes.{tableSaid}
 use Rattle.maker.specs.Making.{won, makeAnswer}
 use Rattle.maker.proofs.Readable.{tableFor}
 use Rattle.maker.proofs.Made.{made-parts, making-won}
@@ -35,7 +36,7 @@ module _ (s t : List ℕ) (yes : judgeAnswer s t ≡ accepted sound) where
   said = ruled s t sound yes
 
   legal : Legal (gameOf s)
-  legal = legal-game s (said .layout) (said .reads)
+  legal = legal-game s (said .sheets .layout) (said .sheets .reads)
 
   judged : Judged (gameOf s) (delayOf s) (decode t .table)
   judged = sound-judged (gameOf s) (delayOf s) (decode t .table) (said .is)
@@ -44,12 +45,12 @@ module _ (s t : List ℕ) (yes : judgeAnswer s t ≡ accepted sound) where
   pub yes-sound : Sound (gameOf s) (decode t)
   unfolding gameOf
   yes-sound =
-      let a = said .agreed in
+      let a = said .sheets .agreed in
       record {
         actions = a .actions;
         highest = let h = a .highest in omega arith;
-        short-delay = said .shaped .short-delay;
-        fits = rw (a .delay) (said .fits);
+        short-delay = said .sheets .shaped .short-delay;
+        fits = rw (a .delay) (said .sheets .fits);
         judged = rw (a .delay) judged;
       }
 
@@ -67,15 +68,15 @@ module _ (s t : List ℕ) (yes : judgeAnswer s t ≡ accepted sound) where
   -- the theorem
   pub yes-wins : Yes s t
   yes-wins =
-      let f = some-word t (decode t) (said .readable) in
-      let l = flagged-word (gameOf s) (delayOf s) (decode t .table) (said .fits) (f .0) (f .1) in
+      let f = some-word t (decode t) (said .sheets .readable) in
+      let l = flagged-word (gameOf s) (delayOf s) (decode t .table) (said .sheets .fits) (f .0) (f .1) in
       record {
         winning = steered-wins;
         some = (
-          lowestStrategy (gameOf s) legal (delayOf s) (decode t .table) (said .fits) judged (f .0) l (f .1),
-          lowest-obeys (gameOf s) legal (delayOf s) (decode t .table) (said .fits) judged (f .0) l (f .1),
+          lowestStrategy (gameOf s) legal (delayOf s) (decode t .table) (said .sheets .fits) judged (f .0) l (f .1),
+          lowest-obeys (gameOf s) legal (delayOf s) (decode t .table) (said .sheets .fits) judged (f .0) l (f .1),
         );
-        inside = judged-inside (gameOf s) legal (delayOf s) (decode t .table) (said .fits) judged;
+        inside = judged-inside (gameOf s) legal (delayOf s) (decode t .table) (said .sheets .fits) judged;
       }
 
 -- what a no names
@@ -123,13 +124,13 @@ no-pair s t k e =
     record {
       no-word = λ w o. word-fine s t w (words w (o .word)) o;
       offends = node-bad s t k (f .below) (f .fails);
-      first = λ j h. node-fine s t (said .fits) j (f .before j h);
+      first = λ j h. node-fine s t (said .sheets .fits) j (f .before j h);
     }
 
--- what our own sheet says agrees with the game sheet
-made-agrees : (s : List ℕ) → Legal (gameOf s) → Agrees s (tableFor (gameOf s) (delayOf s))
+-- what a table sheet of the game says agrees with the game sheet, whatever its table
+pub said-agrees : (s : List ℕ) → Legal (gameOf s) → (T : Table) → Agrees s (tableSaid (gameOf s) (delayOf s) T)
 unfolding gameOf
-made-agrees s legal =
+said-agrees s legal T =
     record { start = refl; actions = refl; delay = refl; highest = let some = legal .start-position in omega arith }
 
 -- "our own sheets always get a yes"
@@ -138,6 +139,7 @@ pub made-yes : (s : List ℕ) (masks ranks output : ℕ) (t : List ℕ) → make
 made-yes s masks ranks output t made =
     let m = made-parts s masks ranks output (won t) made in
     let w = making-won s masks ranks output t made in
-    ruling-is s t (m .layout) (tableFor (gameOf s) (delayOf s)) (m .reads) (w .reads) (agrees-passes s _ (made-agrees s (w .ranged .legal)))
+    ruling-is s t (m .layout) (tableFor (gameOf s) (delayOf s)) (m .reads) (w .reads)
+    (agrees-passes s _ (said-agrees s (w .ranged .legal) _))
     ∙ ap accepted
     (judged-sound (gameOf s) (delayOf s) _ (ours-judged (gameOf s) (w .ranged .legal) (delayOf s)))

@@ -4,5 +4,7 @@ pub mod Reached
 pub mod Judged
 pub mod Packets
 pub mod Accuracy
+pub mod Closed
+pub mod Posted
 pub mod Computing
 pub mod Cases

@@ -8,11 +8,11 @@ use Rattle.theory.specs.Answer.{accepted}
 use Rattle.theory.specs.Reach.{marksAfter, reached}
 use Rattle.theory.proofs.Answer.{accepted-same, accepted-on}
 use Rattle.theory.proofs.Reach.{reached-is, reached-count}
-use Rattle.sheet.specs.Reading.{readAnswer}
+use Rattle.reader.specs.Reading.{readAnswer}
 use Rattle.sheet.specs.SheetGame.{gameOf}
-use Rattle.sheet.specs.declared.reading.Layout.{Layout}
-use Rattle.sheet.proofs.Accepted.{carries}
-use Rattle.sheet.proofs.Legality.{legal-game}
+use Rattle.reader.specs.declared.reading.Layout.{Layout}
+use Rattle.reader.proofs.Accepted.{carries}
+use Rattle.reader.proofs.Legality.{legal-game}
 use Rattle.solver.specs.Solving.{Solved, solveAnswer}
 use Rattle.solver.proofs.Accepted.{solved-is}
 use Rattle.maker.specs.Making.{Measured, measured, madeAnswer}

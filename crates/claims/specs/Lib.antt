@@ -2,5 +2,6 @@
 pub mod Demand2
 pub mod Judged
 pub mod Packets
+pub mod Posted
 pub mod Reached
 pub mod cases

@@ -12,7 +12,7 @@ use Rattle.theory.specs.cases.Games.{Result, winsBy, losesAt, resultBy}
 use Rattle.sheet.specs.Limits.{mostNodes}
 use Rattle.sheet.specs.Bodies.{delayOf}
 use Rattle.sheet.specs.SheetGame.{gameOf}
-use Rattle.sheet.specs.cases.Yards.{sheetWith, guess, splitGate, loop, hall}
+use Rattle.reader.specs.cases.Yards.{sheetWith, guess, splitGate, loop, hall}
 use Rattle.solver.specs.Solving.{solveAnswer}
 use Rattle.table.specs.TableSheet.{decode}
 use Rattle.maker.specs.Making.{Made, won, lost, makeAnswer}

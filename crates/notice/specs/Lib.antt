@@ -1,0 +1,4 @@
+-- Posting a closing notice.
+pub mod Posting
+pub mod cases
+pub mod code

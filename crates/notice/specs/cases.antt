@@ -1,0 +1,2 @@
+-- Tables of cases.
+pub mod Notices
