@@ -15,7 +15,8 @@
  *    7  more than LQ_MOST_PAIRS pairs
  *   solving and making
  *    8  the mask buffer or the rank buffer has fewer entries than there are pairs at the asked lag
- *    9  the output is shorter than 19 + first words + 2 * pairs, all at the asked lag
+ *    9  the output is shorter than 19 + first words + 2 * pairs, all at the asked lag; in posting, shorter than the table sheet, which has
+ *       19 + first words + pairs bytes
  *   reading a winning sheet
  *   10  under 15 bytes, letters not S W T, or places wrong as in 1 with 15 for 20
  *   11  S not 4 bytes, commands or lag out of range, start over the highest position, more than LQ_MOST_PAIRS pairs, a wrong length of W
@@ -34,6 +35,8 @@
  *   21  the sheets differ in start, number of commands, lag or highest position
  *   hearing a packet of reports
  *   22  more than LQ_MOST_OBSERVATIONS records
+ *   posting a closing notice
+ *   23  a position of the notice that doesn't exist
  *
  * Checks are made in the order in which each function names them. A refusal alters nothing that was lent.
  *
@@ -46,8 +49,8 @@
  * Memory. The library has no static data and needs no initialisation: a function reads and writes only what is lent to it and its stack.
  * So it is reentrant, and threads may call at the same time if none writes to what another was lent. (One sheet may be lent to all, a
  * cabin's state to one at a time.) A pointer is not null and valid for the length that goes with it, and what is lent for writing
- * overlaps nothing else that is lent. Measured on x86-64 over sheets with up to 16,384 pairs, lq_make goes 73,960 bytes deep into the
- * stack, lq_solve 73,210, lq_judge 47,470, lq_read 5,500 and each other function fewer than 600: a stack of 96 KiB is enough for any, and
+ * overlaps nothing else that is lent. Measured on x86-64 over sheets with up to 16,384 pairs, lq_post goes 80,960 bytes deep into the
+ * stack, lq_make 73,960, lq_solve 73,210, lq_judge 47,470, lq_read 5,500 and each other function fewer than 600: a stack of 96 KiB is enough for any, and
  * one of 4 KiB for the cabin's functions.
  */
 #ifndef LOQUATQUOITS_H
@@ -130,6 +133,20 @@ uint8_t lq_masks(const uint8_t *sheet, size_t sheet_len, size_t place[2]);
  * and allows, ours does too. A winning sheet from lq_make always gets a yes.
  */
 uint8_t lq_judge(const uint8_t *sheet, size_t sheet_len, const uint8_t *table, size_t table_len, uint8_t *verdict, size_t *place);
+
+/*
+ * Posts a closing notice, a list of positions that count as unsafe from now on, on the table of a winning sheet, whoever made it: refusals
+ * 1 to 7 of the yard sheet, 10 and 11 of the winning sheet, then 21, 23 and 9. 12 is not among them: a sheet without a good first word is
+ * read too. The notice may have any length, repeats and no position at all. Accepted: out holds the sheet of the largest part of the given
+ * table that the rule of lq_judge allows with those positions unsafe: pairs' masks, commands and first words are only taken away, and
+ * every table inside the given one that the rule allows lies inside this one. *size is its length, that of the given sheet; bytes beyond
+ * are as they were. *remains is 1 where a first word remains; else it is 0, and W is all 0. A refusal leaves all three as they were.
+ *
+ * On a sheet from lq_make it is what lq_make would give for the yard with those positions unsafe, at that lag, also where that yard loses
+ * there. Where a first word remains, lq_judge says yes to the sheet, and a cabin that is opened on it never comes to a closed position.
+ */
+uint8_t lq_post(const uint8_t *sheet, size_t sheet_len, const uint8_t *table, size_t table_len, const uint8_t *notice, size_t notice_len,
+                uint8_t *out, size_t out_len, size_t *size, uint8_t *remains);
 
 /*
  * The cabin. Its state is LQ_STATE bytes that the caller lends:

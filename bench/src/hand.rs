@@ -1,5 +1,5 @@
-//! The same reading, the same rounds and the same judging written by hand over flat arrays: what an engineer would write without proofs.
-use crate::cabin::Table;
+//! The same reading, rounds, judging and posting written by hand over flat arrays: what an engineer would write without proofs.
+use crate::cabin::{self, Table};
 use loquatquoits_tests::judge::Judgement;
 
 pub struct Hand {
@@ -231,10 +231,14 @@ impl Hand {
         (0..words).any(|v| self.good(odd, power, ranks, v))
     }
 
+    fn differs(&self, table: &Table) -> bool {
+        let numbers = [table.start as usize, table.actions as usize, table.delay, table.highest as usize + 1];
+        numbers != [self.start, self.actions, self.delay, self.positions]
+    }
+
     /// What is said of a table, or none where the sheets differ in a number. Pairs without a mask count as fallen, in round 1.
     pub fn judge(&self, table: &Table) -> Option<Judgement> {
-        let numbers = [table.start as usize, table.actions as usize, table.delay, table.highest as usize + 1];
-        if numbers != [self.start, self.actions, self.delay, self.positions] {
+        if self.differs(table) {
             return None;
         }
         let odd = self.delay % 2 == 1;
@@ -254,6 +258,46 @@ impl Hand {
             }
         });
         Some(if first == usize::MAX { Judgement::Sound } else { Judgement::Pair(first) })
+    }
+
+    /// The posted sheet's length and whether a word remains, or none where it is refused; a table without a flagged word, which the proved
+    /// one reads, is not measured. The commands of all masks are looked at again until no pair loses its last one.
+    pub fn post(&mut self, sheet: &[u8], notice: &[u8], out: &mut [u8]) -> Option<(usize, bool)> {
+        let table = cabin::read(sheet).filter(|table| !self.differs(table))?;
+        if notice.iter().any(|&p| p as usize >= self.positions) || out.len() < sheet.len() {
+            return None;
+        }
+        notice.iter().for_each(|&p| self.kinds[p as usize] |= 1);
+        let odd = self.delay % 2 == 1;
+        let power = self.actions.pow(self.delay as u32 / 2);
+        out[..sheet.len()].copy_from_slice(sheet);
+        let (flags, masks) = out[19..sheet.len()].split_at_mut(table.words.len());
+        for p in (0..self.positions).filter(|&p| self.own(p) == odd || !self.safe(p)) {
+            masks[p * power..(p + 1) * power].fill(0);
+        }
+        let mut ranks: Vec<u16> = masks.iter().map(|&mask| u16::from(mask == 0)).collect();
+        let mut fell = true;
+        while fell {
+            fell = false;
+            self.each(odd, power, |k, p, h, rest| {
+                let mut left = masks[k];
+                while left != 0 {
+                    let c = left.trailing_zeros() as usize;
+                    left &= left - 1;
+                    if self.spoilt_at(odd, power, &ranks, 1, p, h, rest, c) {
+                        masks[k] &= !(1 << c);
+                    }
+                }
+                if masks[k] == 0 && ranks[k] == 0 {
+                    ranks[k] = 1;
+                    fell = true;
+                }
+            });
+        }
+        for (v, flag) in flags.iter_mut().enumerate().filter(|(_, flag)| **flag == 1) {
+            *flag = u8::from(self.good(odd, power, &ranks, v));
+        }
+        Some((sheet.len(), flags.contains(&1)))
     }
 
     /// None where the asked lag wins, else the losing lag; the buffers as the proved solver fills them.

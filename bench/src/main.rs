@@ -1,12 +1,13 @@
-//! The proved solver against two hand-written versions of the same rounds, and the proved reader, the proved judge and the proved cabin
-//! against hand-written ones, in one run on one machine; with the feature `before`, also against the library of a landing before.
+//! The proved solver against two hand-written versions of the same rounds, and the proved reader, judge, posting and cabin against
+//! hand-written ones, in one run on one machine; with the feature `before`, also against the library of a landing before.
 use loquatquoits_tests::cabin::Observation;
 use loquatquoits_tests::judge::Judgement;
 use loquatquoits_tests::naive::{self, Game, Rule, Verdict};
 use loquatquoits_tests::proved;
 use loquatquoits_tests::random::Random;
 use loquatquoits_tests::sheets::{self, chain, random_yard, Shape, Yard};
-use loquatquoits_tests::worst::{fan, standing, worst, Worst};
+use loquatquoits_tests::tables::everything;
+use loquatquoits_tests::worst::{fan, orders, ring, standing, worst, Worst};
 use std::hint::black_box;
 use std::time::{Duration, Instant};
 
@@ -194,26 +195,28 @@ fn yards() {
 }
 
 /// Yards on which one pair falls a round while the others stand, ones on which all fall at once, and ones that are dear at lags 0 and 1.
-fn worst_yards() {
-    println!("| worst yard | pairs | rounds | proved | by hand, once | proved / by hand | bits | proved / bits |");
-    println!("|---|---|---|---|---|---|---|---|");
+fn dear() -> Vec<(String, Yard)> {
     let even = Worst { actions: 8, layers: 0, rows: 8, ballast: 155, width: 0, touched: false, delay: 4 };
     let odd = Worst { actions: 8, layers: 1, rows: 9, ballast: 62, width: 62, touched: false, delay: 5 };
-    for (name, shape) in [
+    let chains = [
         ("E4", even),
         ("E4 touched", Worst { rows: 7, ballast: 172, touched: true, ..even }),
         ("O5", odd),
         ("O5 touched", Worst { rows: 9, ballast: 55, width: 60, touched: true, ..odd }),
         ("O5 touched, wide", Worst { rows: 4, ballast: 50, width: 70, touched: true, ..odd }),
-    ] {
-        row(name, &worst(&shape, 1), 5);
-        println!();
-    }
-    for (own, hubs, actions, delay) in [(252, 1, 8, 4), (240, 8, 8, 4), (240, 8, 8, 5), (252, 1, 8, 2), (252, 1, 4, 6)] {
-        row(&format!("fan, {actions} actions, lag {delay}, {own} own positions, {hubs} of the yard's"), &fan(own, hubs, actions, delay), 5);
-        println!();
-    }
-    for (name, yard) in standing_yards() {
+    ];
+    let fans = [(252, 1, 8, 4), (240, 8, 8, 4), (240, 8, 8, 5), (252, 1, 8, 2), (252, 1, 4, 6)];
+    let fans = fans.into_iter().map(|(own, hubs, actions, delay)| {
+        let name = format!("fan, {actions} actions, lag {delay}, {own} own positions, {hubs} of the yard's");
+        (name, fan(own, hubs, actions, delay))
+    });
+    chains.map(|(name, shape)| (name.into(), worst(&shape, 1))).into_iter().chain(fans).chain(standing_yards()).collect()
+}
+
+fn worst_yards() {
+    println!("| worst yard | pairs | rounds | proved | by hand, once | proved / by hand | bits | proved / bits |");
+    println!("|---|---|---|---|---|---|---|---|");
+    for (name, yard) in dear() {
         row(&name, &yard, 5);
         println!();
     }
@@ -327,6 +330,100 @@ fn judgings() {
     measure_judging("the longer hall, lag 4", &sheets::long_hall().at(4));
     measure_judging("the sorting hall, lag 2", &sheets::hall().at(2));
     measure_judging("the loop, lag 6", &sheets::looped().at(6));
+    println!();
+}
+
+/// Posting a notice on a table; the sheets of both are compared. By hand runs but once where it takes long.
+fn measure_posting(name: &str, yard: &Yard, table: &[u8], notice: &[u8]) {
+    let sheet = yard.sheet();
+    let postings = if yard.pairs() < 1_000 { 200 } else { 1 };
+    let [mut ours, mut hand] = [(); 2].map(|()| vec![0; table.len()]);
+    let answer = proved::post_into(&sheet, table, notice, &mut ours).unwrap();
+    let mut by_proof = || {
+        for _ in 0..postings {
+            assert_eq!(proved::post_into(black_box(&sheet), black_box(table), notice, &mut ours), Ok(answer));
+        }
+    };
+    let mut by_hand = || {
+        for _ in 0..postings {
+            assert_eq!(hand::Hand::new(black_box(&sheet)).post(black_box(table), notice, &mut hand), Some(answer));
+        }
+    };
+    let once = time(&mut by_hand);
+    let [proved, by_hand] = if once < Duration::from_millis(100) {
+        compare(30, [&mut by_proof, &mut by_hand])
+    } else {
+        [compare(5, [&mut by_proof])[0], once]
+    };
+    assert_eq!(ours, hand, "{name}");
+    let allowed = |sheet: &[u8]| sheet[sheet.len() - yard.pairs()..].iter().map(|mask| mask.count_ones()).sum::<u32>();
+    let [one, other] = [proved, by_hand].map(|time| match nanoseconds(time, postings) / 1e3 {
+        short if short < 1e3 => format!("{short:.2} µs"),
+        long => format!("{:.3} ms", long / 1e3),
+    });
+    println!(
+        "| {name} | {} | {} | {} | {one} | {other} | {:.2} |",
+        yard.pairs(),
+        allowed(table),
+        allowed(&ours),
+        ratio(proved, by_hand),
+    );
+}
+
+/// Notices on our own tables: of nothing, of one position of either side and of every eighth. A row has the commands before and after.
+fn postings() {
+    println!("| posting a notice on our table | pairs | commands | left | proved | by hand | proved / by hand |");
+    println!("|---|---|---|---|---|---|---|");
+    let shape = |own: usize, actions: u8| Shape { own, environment: own, actions, permitted: 100, moves: 2, unsafe_positions: 0 };
+    let mut random = Random::new(205);
+    let large = [
+        ("random, 256 positions, lag 4, 2 moves at most", winning_yard(&mut random, &shape(128, 8), 4)),
+        ("random, 256 positions, lag 5, 2 moves at most", winning_yard(&mut random, &shape(128, 8), 5)),
+        ("random, 32 positions, lag 6, 2 moves at most", winning_yard(&mut random, &shape(16, 8), 6)),
+        ("random, 256 positions, 4 actions, lag 6, 2 moves at most", winning_yard(&mut random, &shape(128, 4), 6)),
+        ("dense, 32 positions, lag 6, 16 moves each", around(16, 8, 16, 6)),
+        ("dense, 256 positions, lag 4, 32 moves each", dense()),
+        ("dense, 256 positions, lag 5, 32 moves each", dense().at(5)),
+        ("the largest table, lag 4, one move each", round_about()),
+    ];
+    let small = [
+        ("the longer hall, lag 4", sheets::long_hall().at(4)),
+        ("the sorting hall, lag 2", sheets::hall().at(2)),
+        ("the loop, lag 6", sheets::looped().at(6)),
+    ];
+    for (name, yard) in large.into_iter().chain(small) {
+        let (table, answer) = proved::make_of(&yard, yard.owed_length()).unwrap();
+        assert_eq!(answer.losing, None);
+        let last = |own: bool| yard.kinds.iter().rposition(|&kind| (kind < 2) == own).unwrap() as u8;
+        let eighth: Vec<u8> = (0..yard.kinds.len()).step_by(8).map(|p| p as u8).collect();
+        let (of_yard, own) = ([last(false)], [last(true)]);
+        for (what, notice) in
+            [("nothing", &[][..]), ("a yard position", &of_yard), ("an own position", &own), ("every eighth position", &eighth)]
+        {
+            measure_posting(&format!("{name}: {what}"), &yard, &table, notice);
+        }
+    }
+    println!();
+}
+
+/// The empty notice on tables of which much falls, and late: on the dear yards the one that allows everything, of which ours is left; and
+/// rings without one mask, which lose one pair a sweep until nothing is left.
+fn long_postings() {
+    println!("| posting on a table that falls for long | pairs | commands | left | proved | by hand | proved / by hand |");
+    println!("|---|---|---|---|---|---|---|");
+    for (name, yard) in dear() {
+        let table = everything(&yard).sheet();
+        let posted = proved::post(&yard.sheet(), &table, &[], table.len()).unwrap().sheet;
+        assert_eq!(posted, proved::make_of(&yard, yard.owed_length()).unwrap().0, "{name}");
+        measure_posting(&format!("{name}: everything allowed"), &yard, &table, &[]);
+    }
+    for delay in [4, 5] {
+        for (name, order) in orders(128) {
+            let (yard, mut table) = ring(&order, 8, delay);
+            *table.masks.iter_mut().rfind(|mask| **mask != 0).unwrap() = 0;
+            measure_posting(&format!("ring of 8192 pairs, lag {delay}, numbered {name}, cut at one"), &yard, &table.sheet(), &[]);
+        }
+    }
     println!();
 }
 
@@ -499,6 +596,8 @@ fn main() {
     worst_yards();
     readings();
     judgings();
+    postings();
+    long_postings();
     cabins();
     packets();
     #[cfg(feature = "before")]

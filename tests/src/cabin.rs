@@ -20,6 +20,12 @@ pub struct Table {
 
 /// "Reading a winning sheet": 10, 11, 12 in this order.
 pub fn read(sheet: &[u8]) -> Result<Table, u8> {
+    let table = read_any(sheet)?;
+    if table.words.contains(&1) { Ok(table) } else { Err(12) }
+}
+
+/// 10 and 11 only: a sheet with W all 0 is read.
+pub fn read_any(sheet: &[u8]) -> Result<Table, u8> {
     let places = naive::contents(sheet, b"SWT").ok_or(10)?;
     let body = |k: usize| &sheet[places[k].0..places[k].0 + places[k].1];
     let (s, w, t) = (body(0), body(1), body(2));
@@ -37,9 +43,6 @@ pub fn read(sheet: &[u8]) -> Result<Table, u8> {
         || t.iter().any(too_wide)
     {
         return Err(11);
-    }
-    if !w.contains(&1) {
-        return Err(12);
     }
     Ok(Table {
         start: s[0],

@@ -1,6 +1,6 @@
 //! Judging from document 02's words (W-202): everything that offends, as explicit sets. Nothing here is shared with the Rattle code.
 use crate::cabin::{self, Table};
-use crate::naive::{self, Game, Pair, Rule};
+use crate::naive::{self, Game, Pair, Read, Rule};
 use std::collections::{BTreeMap, BTreeSet, HashSet};
 
 /// Yes, or no with the number of what offends.
@@ -39,15 +39,20 @@ pub fn judge(sheet: &[u8], table: &[u8]) -> Result<Offences, u8> {
     let read = naive::read(sheet)?;
     let table = cabin::read(table)?;
     let game = Game::of(sheet, &read);
-    let asked = (read.start, read.actions, read.delay, game.positions() - 1);
-    if asked != (table.start, table.actions, table.delay, table.highest as usize) {
+    if differ(&read, &game, &table) {
         return Err(21);
     }
     Ok(offences(&game, &table))
 }
 
+/// "21 where the sheets differ in start, commands, lag or highest position"
+pub fn differ(read: &Read, game: &Game, table: &Table) -> bool {
+    let asked = (read.start, read.actions, read.delay, game.positions() - 1);
+    asked != (table.start, table.actions, table.delay, table.highest as usize)
+}
+
 /// "by document 01's rules with the pairs that have a mask taken as the kept ones and the others as fallen"
-fn offences(game: &Game, table: &Table) -> Offences {
+pub fn offences(game: &Game, table: &Table) -> Offences {
     let pairs = game.pairs(table.delay);
     let masked: Vec<(usize, &Pair)> = pairs.iter().enumerate().filter(|(k, _)| table.masks[*k] != 0).collect();
     let kept: HashSet<&Pair> = masked.iter().map(|(_, pair)| *pair).collect();

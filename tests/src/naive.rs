@@ -162,6 +162,11 @@ impl Game {
         self.kinds[p as usize] % 2 == 0
     }
 
+    /// From now on the position counts as unsafe.
+    pub fn close(&mut self, p: u8) {
+        self.kinds[p as usize] |= 1;
+    }
+
     pub fn target(&self, p: u8, c: u8) -> Option<u8> {
         self.targets.get(&(p, c)).copied()
     }

@@ -2,6 +2,7 @@
 use crate::cabin::{Observation, Refusal};
 use crate::judge::Judgement;
 use crate::naive::Read;
+use crate::posting::Posted;
 use crate::sheets::Yard;
 
 /// C's `lq_heard`.
@@ -54,6 +55,18 @@ extern "C" {
         table_len: usize,
         verdict: *mut u8,
         place: *mut usize,
+    ) -> u8;
+    fn lq_post(
+        sheet: *const u8,
+        sheet_len: usize,
+        table: *const u8,
+        table_len: usize,
+        notice: *const u8,
+        notice_len: usize,
+        out: *mut u8,
+        out_len: usize,
+        size: *mut usize,
+        remains: *mut u8,
     ) -> u8;
 }
 
@@ -238,4 +251,42 @@ pub fn judge_by(lq_judge: Judge, sheet: &[u8], table: &[u8]) -> Result<Judgement
         (2, pair) => Judgement::Pair(pair),
         other => panic!("no judgement: {other:?}"),
     })
+}
+
+/// The posted sheet's length and whether a first word remains, or the refusal's number; a refusal must leave both.
+pub fn post_into(sheet: &[u8], table: &[u8], notice: &[u8], out: &mut [u8]) -> Result<(usize, bool), u8> {
+    let (mut size, mut remains) = (0x5a5a, 0x5a);
+    let number = unsafe {
+        lq_post(
+            sheet.as_ptr(),
+            sheet.len(),
+            table.as_ptr(),
+            table.len(),
+            notice.as_ptr(),
+            notice.len(),
+            out.as_mut_ptr(),
+            out.len(),
+            &mut size,
+            &mut remains,
+        )
+    };
+    if number != 0 {
+        assert_eq!((size, remains), (0x5a5a, 0x5a), "a refused posting altered what was lent");
+        return Err(number);
+    }
+    assert!(size <= out.len() && remains <= 1, "no posting: size {size}, remains {remains}");
+    Ok((size, remains == 1))
+}
+
+/// The sheet posted into an output of so many bytes, or the refusal's number. Nothing beyond the sheet is altered, nor behind the output,
+/// and nothing at all by a refusal.
+pub fn post(sheet: &[u8], table: &[u8], notice: &[u8], room: usize) -> Result<Posted, u8> {
+    let before: Vec<u8> = (0..room + 8).map(|k| (k * 31 + 7) as u8).collect();
+    let mut out = before.clone();
+    let answer = post_into(sheet, table, notice, &mut out[..room]);
+    let written = answer.map_or(0, |(size, _)| size);
+    assert_eq!(out[written..], before[written..], "bytes beyond the posted sheet were altered");
+    let (size, remains) = answer?;
+    out.truncate(size);
+    Ok(Posted { sheet: out, remains })
 }

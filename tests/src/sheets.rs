@@ -55,6 +55,27 @@ impl Yard {
         19 + (self.actions as usize).pow((self.delay as u32 + 1) / 2) + 2 * self.pairs()
     }
 
+    /// The same yard with these positions unsafe: in P, 0 becomes 1 and 2 becomes 3.
+    pub fn closed(&self, notice: &[u8]) -> Yard {
+        let mut yard = self.clone();
+        for &p in notice {
+            yard.kinds[p as usize] |= 1;
+        }
+        yard
+    }
+
+    /// A new start, from which command 0 leads into the yard and any other into a loop beside it. The last position is the loop's own one.
+    pub fn beside_a_loop(&self) -> Yard {
+        let start = self.kinds.len() as u8;
+        let (lane, gate, bay) = (start + 1, start + 2, start + 3);
+        let mut yard = Yard { start, ..self.clone() };
+        yard.kinds.extend([0, 2, 2, 0]);
+        yard.targets.extend((0..self.actions).map(|c| [start, c, if c == 0 { lane } else { gate }]));
+        yard.targets.extend((0..self.actions).map(|c| [bay, c, gate]));
+        yard.moves.extend([[lane, self.start], [gate, bay]]);
+        yard
+    }
+
     /// The same yard, its positions numbered from the other end.
     pub fn turned(&self) -> Yard {
         let number = |p: u8| (self.kinds.len() - 1) as u8 - p;
@@ -100,6 +121,21 @@ pub fn long_hall() -> Yard {
         &[[0, 0, 6], [0, 1, 6], [1, 0, 7], [1, 1, 7], [2, 0, 8], [2, 1, 8], [3, 0, 9], [3, 1, 9], [4, 0, 10], [5, 1, 10]],
         &[[6, 2], [7, 3], [8, 4], [9, 5], [10, 0], [10, 1]],
     )
+}
+
+/// From the gate, position 0, command 0 leads by lane 3 to bay 1 and command 1 by lane 4 to bay 2; from either bay any command leads back.
+pub fn two_bays() -> Yard {
+    yard(
+        2,
+        &[0, 0, 0, 2, 2, 2],
+        &[[0, 0, 3], [0, 1, 4], [1, 0, 5], [1, 1, 5], [2, 0, 5], [2, 1, 5]],
+        &[[3, 1], [4, 2], [5, 0]],
+    )
+}
+
+/// The start leads into a loop that does not come back to it.
+pub fn lead_in() -> Yard {
+    yard(1, &[0, 0, 2, 2], &[[0, 0, 2], [1, 0, 3]], &[[2, 1], [3, 1]])
 }
 
 /// The guess yard without its moves 0 1 3 and 2 1: from the start, positions 1 and 3 are cut off.

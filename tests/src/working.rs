@@ -202,3 +202,19 @@ pub fn work(random: &mut Random, yard: &Yard, sheet: &[u8], packets: usize, coun
     }
     assert_eq!(work.worked[..], exact[..work.worked.len()], "the worked play is not the exact play");
 }
+
+/// A flagged word and then commands out of the masks, drawn anew each time: the play goes on and is safe.
+pub fn any_choice(random: &mut Random, yard: &Yard, table: &Table) {
+    let game = Game::of(&yard.sheet(), &naive::read(&yard.sheet()).unwrap());
+    let flagged: Vec<usize> = (0..table.words.len()).filter(|&v| table.words[v] == 1).collect();
+    let (word, seed, delay) = (*random.pick(&flagged), random.next(), table.delay as usize);
+    safe_play(&game, seed, 40, |i, play, given| {
+        if 2 * i < delay {
+            return table.first_command(word, i);
+        }
+        let mask = table.mask(play[2 * i - delay], given);
+        let allowed: Vec<u8> = (0..8).filter(|c| mask >> c & 1 == 1).collect();
+        assert!(!allowed.is_empty(), "a play met a pair without a mask: {yard:?} {table:?}");
+        *random.pick(&allowed)
+    });
+}

@@ -1,7 +1,10 @@
 //! Yards that are dear to solve: chains that lose one pair a round, beside ballast that never falls and whose moves are long to look
 //! through; fans, in which all pairs fall at once and each is an outcome of many; and standing yards, dear where each position has one pair.
+//! Beside them a table that loses one pair a sweep.
+use crate::cabin::Table;
 use crate::random::Random;
 use crate::sheets::Yard;
+use crate::tables::table_of;
 
 /// Positions and lines as they are added, ordered at the end.
 struct Plan {
@@ -317,4 +320,50 @@ pub fn standing(own: usize, links: usize, actions: u8, delay: u8) -> Yard {
         lost = q;
     }
     plan.yard(ballast[0], delay)
+}
+
+/// Own positions and as many of the yard's in a round, numbered in this order, any command leading on; and a table with one command a mask,
+/// by which all pairs of the right side follow each other in one ring. Without one mask of it, a pair falls a sweep. The lag is 2 at least.
+pub fn ring(order: &[usize], actions: u8, delay: u8) -> (Yard, Table) {
+    let places = order.len();
+    let position = |i: usize, side: usize| 2 * order[i % places] + side;
+    let mut plan = Plan::new(actions);
+    plan.kinds = [0, 2].repeat(places);
+    for i in 0..places {
+        plan.any(position(i, 0) as u8, position(i, 1) as u8);
+        plan.moves(position(i, 1) as u8, position(i + 1, 0) as u8);
+    }
+    let yard = plan.yard(position(0, 0) as u8, delay);
+    // A circuit over all lines of a graph. Its nodes are a place and a word without its newest command, from which that command leads to
+    // the next place and the word without its oldest: each line is a pair.
+    let a = actions as usize;
+    let words = a.pow(delay as u32 / 2);
+    let nodes = words / a;
+    let mut tried = vec![0; places * nodes];
+    let (mut way, mut circuit) = (vec![(0, 0)], Vec::new());
+    while let Some(&(node, line)) = way.last() {
+        if tried[node] == a {
+            circuit.push(line);
+            way.pop();
+            continue;
+        }
+        let line = node * a + tried[node];
+        tried[node] += 1;
+        way.push(((line / words + 1) % places * nodes + line % nodes, line));
+    }
+    circuit.pop();
+    // last things first: each line leads to the one before it, and the first to the last
+    let mut masks = vec![0; yard.pairs()];
+    let mut next = circuit[circuit.len() - 1];
+    for line in circuit {
+        masks[position(line / words, delay as usize % 2) * words + line % words] = 1 << (next % a);
+        next = line;
+    }
+    let table = table_of(&yard, vec![1; a.pow((delay as u32 + 1) / 2)], masks);
+    (yard, table)
+}
+
+/// So many places numbered up, down and in mixed order.
+pub fn orders(places: usize) -> [(&'static str, Vec<usize>); 3] {
+    [("up", (0..places).collect()), ("down", (0..places).rev().collect()), ("mixed", permutation(&mut Random::new(1), places))]
 }

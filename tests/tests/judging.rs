@@ -1,15 +1,18 @@
 //! Tables made elsewhere: the proved judge against the naive one over our tables and altered ones, every single bit, damaged sheets,
 //! several faults at once, the largest tables and yards in which one line spoils; and what a yes means, at work in the cabin and by
 //! any choice out of the table.
-use loquatquoits_tests::cabin::{self, Table};
+use loquatquoits_tests::cabin::Table;
 use loquatquoits_tests::counts::{count, report, Counts};
 use loquatquoits_tests::hubs::{Flaw, Hub, LINES};
 use loquatquoits_tests::judge::{self, Judgement, Offences};
-use loquatquoits_tests::naive::{self, Game};
 use loquatquoits_tests::proved;
 use loquatquoits_tests::random::Random;
 use loquatquoits_tests::sheets::{self, damage, random_yard, Shape, Yard};
-use loquatquoits_tests::working::{self, safe_play};
+use loquatquoits_tests::tables::{
+    faulty_sheet, faulty_table, flipped, near_numbers, numbers, ours, pairs_at, pick, random_table, table_of, thinned, winning,
+    with_commands_at, with_commands_taken, without_masks,
+};
+use loquatquoits_tests::working::{self, any_choice};
 
 /// What offends, once both judges have said the same; neither sheet is altered.
 fn judged(sheet: &[u8], table: &[u8]) -> Result<Offences, u8> {
@@ -28,87 +31,6 @@ fn words_of(answer: &Result<Offences, u8>) -> String {
         Ok(Judgement::Word(_)) => "bad word".into(),
         Ok(Judgement::Pair(_)) => "bad pair".into(),
     }
-}
-
-/// Our table, where the yard wins at its lag.
-fn ours(yard: &Yard) -> Option<Table> {
-    let (sheet, answer) = proved::make_of(yard, yard.owed_length()).unwrap();
-    answer.losing.is_none().then(|| cabin::read(&sheet).unwrap())
-}
-
-/// A small random yard that wins, and our table.
-fn winning(random: &mut Random) -> (Yard, Table) {
-    loop {
-        let shape = Shape::small(random);
-        let yard = random_yard(random, &shape).at(random.below(7) as u8);
-        if let Some(table) = ours(&yard) {
-            return (yard, table);
-        }
-    }
-}
-
-/// Some of the commands, each in so many of a hundred cases.
-fn commands(random: &mut Random, actions: u8, share: usize) -> u8 {
-    (0..actions).map(|c| u8::from(random.percent(share)) << c).sum()
-}
-
-/// Nothing of ours but its numbers and lengths: masks on the right side alone or anywhere, one flag or all.
-fn random_table(random: &mut Random, yard: &Yard) -> Table {
-    let (share, anywhere, all) = (*random.pick(&[30, 70, 100]), random.percent(30), random.percent(50));
-    let right = pairs_at(yard, if yard.delay % 2 == 0 { [0, 1] } else { [2, 3] });
-    let mut masks = vec![0; yard.pairs()];
-    for (k, mask) in masks.iter_mut().enumerate() {
-        if anywhere || right.contains(&k) {
-            *mask = commands(random, yard.actions, share);
-        }
-    }
-    let mut words = vec![u8::from(all); (yard.actions as usize).pow((yard.delay as u32 + 1) / 2)];
-    *pick(random, &mut words) = 1;
-    table_of(yard, words, masks)
-}
-
-fn table_of(yard: &Yard, words: Vec<u8>, masks: Vec<u8>) -> Table {
-    Table::new([yard.start, yard.actions, yard.delay, (yard.kinds.len() - 1) as u8], words, masks)
-}
-
-fn pick<'a>(random: &mut Random, bytes: &'a mut [u8]) -> &'a mut u8 {
-    let at = random.below(bytes.len());
-    &mut bytes[at]
-}
-
-/// Each mask keeps some of its commands, one at least, and so do the flags: what is kept stays so, and the table sound.
-fn thinned(random: &mut Random, table: &Table) -> Table {
-    let mut thin = table.clone();
-    for mask in thin.masks.iter_mut() {
-        let left = *mask & commands(random, table.actions, 50);
-        *mask = if left == 0 { *mask } else { left };
-    }
-    let words: Vec<u8> = table.words.iter().map(|flag| flag & u8::from(random.percent(50))).collect();
-    if words.contains(&1) {
-        thin.words = words;
-    }
-    thin
-}
-
-fn with_commands_taken(random: &mut Random, table: &Table) -> Table {
-    let share = *random.pick(&[50, 80, 97]);
-    let masks = table.masks.iter().map(|mask| mask & commands(random, table.actions, share)).collect();
-    Table { masks, ..table.clone() }
-}
-
-/// The pairs at positions of these kinds.
-fn pairs_at(yard: &Yard, kinds: [u8; 2]) -> Vec<usize> {
-    let power = yard.pairs() / yard.kinds.len();
-    (0..yard.pairs()).filter(|k| kinds.contains(&yard.kinds[k / power])).collect()
-}
-
-/// One to three commands more, at these pairs.
-fn with_commands_at(random: &mut Random, table: &Table, pairs: &[usize]) -> Table {
-    let mut more = table.clone();
-    for _ in 0..1 + random.below(3) {
-        more.masks[*random.pick(pairs)] |= 1 << random.below(table.actions as usize);
-    }
-    more
 }
 
 fn with_flag(random: &mut Random, table: &Table) -> Table {
@@ -179,12 +101,6 @@ fn random_tables() {
     report("random tables", &counts, &by_lag.chain(by_fault).chain(by_table).collect::<Vec<_>>());
 }
 
-fn flipped(sheet: &[u8], bit: usize) -> Vec<u8> {
-    let mut other = sheet.to_vec();
-    other[bit / 8] ^= 1 << (bit % 8);
-    other
-}
-
 /// Our tables with every single bit of the table's sheet or of the yard's turned over.
 #[test]
 fn every_bit() {
@@ -235,42 +151,6 @@ fn damaged_sheets() {
     report("damaged sheets", &counts, &[&refused[..], &["yes", "bad word", "bad pair"].map(String::from)].concat());
 }
 
-/// The sheet of a yard with these faults. It has 33 positions and eight commands, so that lag 4 is accepted and lag 6 is not.
-fn faulty_sheet(yard: &Yard, faults: &[u8]) -> Vec<u8> {
-    let has = |fault: u8| faults.contains(&fault);
-    let mut yard = yard.clone();
-    let last = *yard.moves.last().unwrap();
-    if has(2) {
-        yard.kinds[last[0] as usize] = 4;
-    }
-    if has(3) {
-        yard.start = last[0];
-    }
-    if has(4) {
-        yard.targets.push(yard.targets[0]);
-    }
-    if has(5) {
-        yard.moves.insert(1, yard.moves[0]);
-    }
-    if has(6) {
-        yard.moves.retain(|line| line[0] != last[0]);
-    }
-    if has(7) {
-        yard.delay = 6;
-    }
-    let mut sheet = yard.sheet();
-    sheet.extend(has(1).then_some(0));
-    sheet
-}
-
-fn faulty_table(table: &Table, other_start: u8, faults: &[u8]) -> Vec<u8> {
-    let mut table = table.clone();
-    if faults.contains(&21) {
-        table.start = other_start;
-    }
-    table.faulty_sheet(faults)
-}
-
 /// Any number of faults at once: the answer is the first in the order written, which is that of the numbers, and a yes where there is none.
 #[test]
 fn order_of_refusals() {
@@ -291,35 +171,21 @@ fn order_of_refusals() {
     report("order of refusals", &counts, &[&all.map(|n| format!("refused {n}"))[..], &["yes".into()]].concat());
 }
 
-/// A table without a mask, every first word flagged: readable, and judged with a bad word where its numbers are the yard's.
-fn without_masks(start: u8, actions: u8, delay: u8, highest: u8) -> Vec<u8> {
-    let yard = Yard { start, actions, delay, kinds: vec![0; highest as usize + 1], targets: Vec::new(), moves: Vec::new() };
-    let words = vec![1; (actions as usize).pow((delay as u32 + 1) / 2)];
-    table_of(&yard, words, vec![0; yard.pairs()]).sheet()
-}
-
 /// 21 exactly where one of the four numbers is not the yard's: each exact and one off, alone and together.
 #[test]
 fn other_numbers() {
     let mut counts = Counts::new();
-    let near = |n: u8, least: u8, most: u8| n.saturating_sub(1).max(least)..=n.saturating_add(1).min(most);
     let safe_chain = Yard { kinds: [0, 2].repeat(128), ..sheets::chain(128) };
     let hall = |start: u8, delay: u8| Yard { start, ..sheets::hall().at(delay) };
     for yard in [hall(1, 2), hall(2, 3), sheets::looped().at(6), safe_chain.at(1)] {
-        let (sheet, highest) = (yard.sheet(), (yard.kinds.len() - 1) as u8);
-        for h in near(highest, 1, 255) {
-            for start in near(yard.start, 0, h) {
-                for a in near(yard.actions, 1, 8) {
-                    for lag in near(yard.delay, 0, 6) {
-                        let exact = (start, a, lag, h) == (yard.start, yard.actions, yard.delay, highest);
-                        let words = words_of(&judged(&sheet, &without_masks(start, a, lag, h)));
-                        assert_eq!(words, if exact { "bad word" } else { "refused 21" });
-                        count(&mut counts, words);
-                    }
-                }
-            }
+        let sheet = yard.sheet();
+        for other in near_numbers(&yard) {
+            let words = words_of(&judged(&sheet, &without_masks(other)));
+            assert_eq!(words, if other == numbers(&yard) { "bad word" } else { "refused 21" });
+            count(&mut counts, words);
         }
-        assert_eq!(words_of(&judged(&sheet, &without_masks(yard.start, 9, 2, highest))), "refused 11");
+        let [start, _, _, highest] = numbers(&yard);
+        assert_eq!(words_of(&judged(&sheet, &without_masks([start, 9, 2, highest]))), "refused 11");
     }
     // with one command the tables of all lags have the same lengths
     for (lag, other) in (0..7).flat_map(|lag| (0..7).map(move |other| (lag, other))) {
@@ -342,22 +208,6 @@ fn mended(sheet: &[u8], mut table: Table) -> Option<Table> {
             }
         }
     }
-}
-
-/// A flagged word and then commands out of the masks, drawn anew each time: the play goes on and is safe.
-fn any_choice(random: &mut Random, yard: &Yard, table: &Table) {
-    let game = Game::of(&yard.sheet(), &naive::read(&yard.sheet()).unwrap());
-    let flagged: Vec<usize> = (0..table.words.len()).filter(|&v| table.words[v] == 1).collect();
-    let (word, seed, delay) = (*random.pick(&flagged), random.next(), table.delay as usize);
-    safe_play(&game, seed, 40, |i, play, given| {
-        if 2 * i < delay {
-            return table.first_command(word, i);
-        }
-        let mask = table.mask(play[2 * i - delay], given);
-        let allowed: Vec<u8> = (0..8).filter(|c| mask >> c & 1 == 1).collect();
-        assert!(!allowed.is_empty(), "a play met a pair without a mask: {yard:?} {table:?}");
-        *random.pick(&allowed)
-    });
 }
 
 /// What a yes means: the cabin works by such a table as it does by ours, and so does any choice out of it. Of the cabin's hearings so many

@@ -1,4 +1,5 @@
--- What a C caller gets, by the cases of the code's enums: one argument for reading, solving, making, table sheets and judging. Assumes nothing.
+-- What a C caller gets, by the cases of the code's enums: one argument for reading, solving, making, table sheets, judging and
+-- posting. Assumes nothing.
 use Prim.Native.Nat.{ℕ}
 use mathlib.Core.Path.{_≡_, sym, ap, _∙_}
 use mathlib.Core.List.{List, [], _∷_}
@@ -9,11 +10,11 @@ use Rattle.sheet.specs.Limits.{width}
 use Rattle.sheet.specs.Form.{placedAt, partAt, bodyOf}
 use Rattle.sheet.specs.Refusals.{numberOf}
 use Rattle.sheet.specs.declared.refusal.Refusal.{Refusal}
-use Rattle.sheet.specs.declared.reading.Layout.{Layout}
-use Rattle.sheet.specs.Reading.{readingMeans, refusalNumber}
+use Rattle.reader.specs.declared.reading.Layout.{Layout}
+use Rattle.reader.specs.Reading.{readingMeans, refusalNumber}
 use Rattle.sheet.specs.declared.form.Place.{Place}
-use Rattle.sheet.specs.declared.reading.Reading.{Reading}
-use Rattle.sheet.specs.declared.reading.Reading.the-variants.{Refused}
+use Rattle.reader.specs.declared.reading.Reading.{Reading}
+use Rattle.reader.specs.declared.reading.Reading.the-variants.{Refused}
 use Rattle.solver.specs.Solving.{Solved, solutionMeans}
 use Rattle.solver.specs.declared.solve.Solution.{Solution}
 use Rattle.maker.specs.Making.{Measured, makingMeans}
@@ -22,6 +23,8 @@ use Rattle.table.specs.TableSheet.{TableSheet, tableAnswer, tableReadingMeans, 
 use Rattle.table.specs.declared.reading.TableReading.{TableReading}
 use Rattle.judge.specs.Judging.{judgementMeans}
 use Rattle.judge.specs.declared.judging.Judgement.{Judgement}
+use Rattle.notice.specs.Posting.{Written, postingMeans}
+use Rattle.notice.specs.declared.posting.Posting.{Posting}
 use Rattle.capi.specs.Exported.{byAnswer}
 
 -- what an answer gives, by its two cases
@@ -63,6 +66,10 @@ module _ {B : Type 0} (v : B) (g : ℕ → B) where
       → v ≡ byAnswer g f a
   by-judgement f = by-meaning v g f judgementMeans
 
+  pub by-posting : (f : Written → B) (a : Answer Written) (r w : Posting) → postingMeans r ≡ a → r ≡ w → v ≡ byAnswer g f (postingMeans w)
+      → v ≡ byAnswer g f a
+  by-posting f = by-meaning v g f postingMeans
+
 pub reading-number : (r : Reading) (why : Refusal) (n : ℕ) → n ≡ refusalNumber r → r ≡ Refused why → n ≡ numberOf why
 reading-number r why n q e = q ∙ ap refusalNumber e
 
@@ -79,6 +86,8 @@ pub ruleset makes = (needs, by-refused, by-accepted, by-making)
 pub ruleset reads-tables = (needs, by-refused, by-accepted, by-table, placed-is)
 
 pub ruleset judges = (needs, by-refused, by-accepted, by-judgement)
+
+pub ruleset posts = (needs, by-refused, by-accepted, by-posting)
 
 -- the place that is left where the sheet is read is that of the masks
 pub masks-placed : (s : List ℕ) (x : TableSheet) → tableAnswer s ≡ accepted x → partAt s (placedAt width s 2) ≡ masksOf s

@@ -1,17 +1,19 @@
 -- The operations as C callers have them: a number, 0 where accepted, and what is written where nothing was refused ("alters no
 -- lent area"). Assumes nothing.
 use Prim.Native.Nat.{ℕ}
+use mathlib.Core.Bool.{cond}
 use mathlib.Core.List.{List, [], _∷_}
 use Rattle.theory.specs.Answer.{Answer, refused, accepted}
 use Rattle.theory.specs.Delay.{Verdict, wins, losing}
 use Rattle.theory.specs.Judging.{Ruling, sound, badWord, badNode}
 use Rattle.sheet.specs.Limits.{width}
 use Rattle.sheet.specs.Form.{placedAt}
-use Rattle.sheet.specs.Reading.{readAnswer}
+use Rattle.reader.specs.Reading.{readAnswer}
 use Rattle.solver.specs.Solving.{solving}
 use Rattle.table.specs.TableSheet.{tableAnswer}
 use Rattle.judge.specs.Judging.{judgeAnswer}
 use Rattle.maker.specs.Making.{madeAnswer}
+use Rattle.notice.specs.Posting.{postedAnswer}
 
 -- by an answer: g of a refusal's number, f of an accepted value
 unfoldable pub byAnswer : {A B : Type 0} → (ℕ → B) → (A → B) → Answer A → B
@@ -85,3 +87,10 @@ verdictAfter s t before = written verdictNumber (judgeAnswer s t) before
 
 abbrev pub offenderAfter : List ℕ → List ℕ → ℕ → ℕ
 offenderAfter s t before = written offender (judgeAnswer s t) before
+
+-- posting: the written sheet's length, and 1 where a first word remains, else 0
+abbrev pub postedSize : List ℕ → List ℕ → List ℕ → List ℕ → ℕ → ℕ
+postedSize s t ps out before = written (λ x. x .size) (postedAnswer s t ps out) before
+
+abbrev pub postedRemains : List ℕ → List ℕ → List ℕ → List ℕ → ℕ → ℕ
+postedRemains s t ps out before = written (λ x. cond (x .remains) 1 0) (postedAnswer s t ps out) before

@@ -1,13 +1,13 @@
 // Reading and solving for C and Rust callers (include/loquatquoits.h). Every function takes any bytes and any lengths.
-pub mod tables; // making sheets, the masks of a table sheet, and judging one
+pub mod tables; // making sheets, the masks of a table sheet, judging one, and posting a notice on one
 pub mod control; // opening, observing and acting
 
-use sheet::reading::Reading;
-use sheet::reading::read;
+use reader::reading::Reading;
+use reader::reading::read;
 use solver::solve::Solution;
 use solver::solve::solve;
 ghost use mathlib.Core.Path.{_≡_};
-ghost use Rattle.sheet.specs.Reading.{readAnswer};
+ghost use Rattle.reader.specs.Reading.{readAnswer};
 ghost use Rattle.solver.specs.Solving.{solving, masksSolved, ranksSolved};
 ghost use Rattle.capi.specs.Exported.{numberFor, headerAfter, placesAfter, readReached, losingAfter, solvedReached};
 

@@ -1,9 +1,12 @@
-// Making sheets, reading a table sheet and judging one for C and Rust callers. Every function takes any bytes and any lengths.
+// Making sheets, reading a table sheet, judging one and posting a notice on one for C and Rust callers. Every function takes any bytes and
+// any lengths.
 use crate::WINS;
 use judge::judging::Judgement;
 use judge::judging::judge;
 use maker::making::Making;
 use maker::making::make;
+use notice::posting::Posting;
+use notice::posting::post;
 use sheet::form::placed;
 use table::reading::TableReading;
 use table::reading::read;
@@ -11,7 +14,9 @@ ghost use mathlib.Core.Path.{_≡_};
 ghost use Rattle.maker.specs.Making.{madeAnswer, masksMade, ranksMade, outputMade};
 ghost use Rattle.table.specs.TableSheet.{tableAnswer};
 ghost use Rattle.judge.specs.Judging.{judgeAnswer};
+ghost use Rattle.notice.specs.Posting.{postedAnswer, postedOutput};
 ghost use Rattle.capi.specs.Exported.{numberFor, madeSize, madeLosing, madeReached, placeAfter, verdictAfter, offenderAfter};
+ghost use Rattle.capi.specs.Exported.{postedSize, postedRemains};
 
 // What stands for each verdict of judging (LQ_SOUND, LQ_BAD_WORD, LQ_BAD_PAIR).
 const SOUND: u8 = 0;
@@ -106,6 +111,40 @@ pub extern "C" fn lq_judge(sheet: &[u8], table: &[u8], verdict: &mut u8, place: 
         Judgement::BadNode(k) => {
             *verdict = BAD_PAIR;
             *place = k;
+            0
+        }
+    }
+}
+
+#[no_mangle]
+pub extern "C" fn lq_post(
+    sheet: &[u8],
+    table: &[u8],
+    notice: &[u8],
+    out: &mut [u8],
+    size: &mut usize,
+    remains: &mut u8,
+) -> u8
+    ensures number { λ r. ⌜ r
+        ≡ numberFor (postedAnswer (now (sheet .entry)) (now (table .entry)) (now (notice .entry)) (now (out .entry))) ⌝ }
+    ensures output { λ r. ⌜ now (out .exit)
+        ≡ postedOutput (now (sheet .entry)) (now (table .entry)) (now (notice .entry)) (now (out .entry)) ⌝ }
+    ensures size { λ r. ⌜ now (size .exit)
+        ≡ postedSize (now (sheet .entry)) (now (table .entry)) (now (notice .entry)) (now (out .entry)) (now (size .entry)) ⌝ }
+    ensures remains { λ r. ⌜ now (remains .exit)
+        ≡ postedRemains (now (sheet .entry)) (now (table .entry)) (now (notice .entry)) (now (out .entry)) (now (remains .entry)) ⌝ }
+{
+    let posted = post(sheet, table, notice, out);
+    match posted {
+        Posting::Refused(number) => number,
+        Posting::Posted(n) => {
+            *size = n;
+            *remains = 1;
+            0
+        }
+        Posting::Emptied(n) => {
+            *size = n;
+            *remains = 0;
             0
         }
     }
