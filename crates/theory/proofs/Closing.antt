@@ -14,14 +14,14 @@ use Rattle.theory.specs.Closing.{restrict, withSafe, listed, openIn, clo
 use Rattle.theory.proofs.Fold.{bool, not-both, implies-not, both-true, both-left, both-right, both-false, any-of-map, any-of-none, any-of-fails}
 use Rattle.theory.proofs.Region.{region-safe}
 use Rattle.theory.proofs.Standing.{behind, mask-node}
-use Rattle.theory.proofs.Tables.{has-mask}
+use Rattle.theory.proofs.Tables.{has-mask, inside-self, inside-has}
 use Rattle.theory.proofs.Part.{fits-sized, part-flagged, part-region}
 use Rattle.theory.proofs.OurTable.{ours-fits, ours-judged, judged-inside}
 use Rattle.theory.proofs.Within.{within-fits, within-inside, within-judged, within-largest, table-same}
 
 -- sizes and legality do not ask which positions are safe
 module _ (G : Game) (s s′ : ℕ → Bool) where
-  fits-safe : (d : ℕ) (T : Table) → Fits (withSafe G s) d T → Fits (withSafe G s′) d T
+  pub fits-safe : (d : ℕ) (T : Table) → Fits (withSafe G s) d T → Fits (withSafe G s′) d T
   unfolding initialWords arena words
   fits-safe d T f =
       record {
@@ -31,7 +31,7 @@ module _ (G : Game) (s s′ : ℕ → Bool) where
         masks-small = f .masks-small;
       }
 
-  legal-safe : Legal (withSafe G s) → Legal (withSafe G s′)
+  pub legal-safe : Legal (withSafe G s) → Legal (withSafe G s′)
   legal-safe l =
       record {
         start-position = l .start-position;
@@ -64,57 +64,68 @@ unfolding bad
 behind-one fallen true o e = (refl, e)
 behind-one fallen false o e = absurd (true≢false e)
 
--- a table that is judged with each of two sets of safe positions is judged with one that holds what both do
+-- a table that is judged with one set of safe positions, inside one that is judged with another, is judged with what both sets hold
 module _ (G : Game) (s₁ s₂ s : ℕ → Bool) (meet : (p : ℕ) → s₁ p ≡ true → s₂ p ≡ true → s p ≡ true) where
-  played-both : (fallen : ℕ → Bool) (m w : ℕ) (t : Target) → anyOf (bad fallen) (playedTo (withSafe G s₁) m w t) ≡ false
-      → anyOf (bad fallen) (playedTo (withSafe G s₂) m w t) ≡ false
-      → anyOf (bad fallen) (playedTo (withSafe G s) m w t) ≡ false
-  unfolding playedTo
-  played-both fallen m w absent e₁ e₂ = e₁
-  played-both fallen m w (to q) e₁ e₂ =
-      let x₁ = implies-not _ _ (sym (behind fallen (s₁ q) _) ∙ e₁) in
-      let x₂ = implies-not _ _ (sym (behind fallen (s₂ q) _) ∙ e₂) in
-      rw (meet q (x₁ .0) (x₂ .0)) (x₁ .1)
+  -- of the first outcomes it counts only that none is absent
+  module _ (fallen₁ fallen₂ : ℕ → Bool) where
+    played-both : (m w : ℕ) (t : Target) → anyOf (bad fallen₁) (playedTo (withSafe G s₁) m w t) ≡ false
+        → anyOf (bad fallen₂) (playedTo (withSafe G s₂) m w t) ≡ false
+        → anyOf (bad fallen₂) (playedTo (withSafe G s) m w t) ≡ false
+    unfolding playedTo
+    played-both m w absent e₁ e₂ = e₂
+    played-both m w (to q) e₁ e₂ =
+        let x₁ = implies-not _ _ (sym (behind fallen₁ (s₁ q) _) ∙ e₁) in
+        let x₂ = implies-not _ _ (sym (behind fallen₂ (s₂ q) _) ∙ e₂) in
+        rw (meet q (x₁ .0) (x₂ .0)) (x₂ .1)
 
-  moved-both : (fallen : ℕ → Bool) (m h w r : ℕ) → bad fallen (movedTo (withSafe G s₁) m h w r) ≡ false
-      → bad fallen (movedTo (withSafe G s₂) m h w r) ≡ false
-      → bad fallen (movedTo (withSafe G s) m h w r) ≡ false
-  unfolding movedTo
-  moved-both fallen m h w r e₁ e₂ =
-      let x₁ = behind-one fallen (s₁ r) _ e₁ in
-      let x₂ = behind-one fallen (s₂ r) _ e₂ in
-      rw (meet r (x₁ .0) (x₂ .0)) (x₁ .1)
+    moved-both : (m h w r : ℕ) → bad fallen₁ (movedTo (withSafe G s₁) m h w r) ≡ false
+        → bad fallen₂ (movedTo (withSafe G s₂) m h w r) ≡ false
+        → bad fallen₂ (movedTo (withSafe G s) m h w r) ≡ false
+    unfolding movedTo
+    moved-both m h w r e₁ e₂ =
+        let x₁ = behind-one fallen₁ (s₁ r) _ e₁ in
+        let x₂ = behind-one fallen₂ (s₂ r) _ e₂ in
+        rw (meet r (x₁ .0) (x₂ .0)) (x₂ .1)
 
-  outcomes-both : (b : Bool) (fallen : ℕ → Bool) (m p j : ℕ) → anyOf (bad fallen) (outcomes b (withSafe G s₁) m p j) ≡ false
-      → anyOf (bad fallen) (outcomes b (withSafe G s₂) m p j) ≡ false
-      → anyOf (bad fallen) (outcomes b (withSafe G s) m p j) ≡ false
-  unfolding outcomes
-  outcomes-both true fallen m p j e₁ e₂ =
-      any-of-map (bad fallen) _ (G .moves p)
-      ∙ any-of-fails _ (G .moves p)
-      (λ r i.
-      moved-both fallen m _ _ r
-      (any-of-none _ i (sym (any-of-map (bad fallen) _ (G .moves p)) ∙ e₁))
-      (any-of-none _ i (sym (any-of-map (bad fallen) _ (G .moves p)) ∙ e₂)))
-  outcomes-both false fallen m p j e₁ e₂ = played-both fallen m _ _ e₁ e₂
+    outcomes-both : (b : Bool) (m p j : ℕ) → anyOf (bad fallen₁) (outcomes b (withSafe G s₁) m p j) ≡ false
+        → anyOf (bad fallen₂) (outcomes b (withSafe G s₂) m p j) ≡ false
+        → anyOf (bad fallen₂) (outcomes b (withSafe G s) m p j) ≡ false
+    unfolding outcomes
+    outcomes-both true m p j e₁ e₂ =
+        any-of-map (bad fallen₂) _ (G .moves p)
+        ∙ any-of-fails _ (G .moves p)
+        (λ r i.
+        moved-both m _ _ r
+        (any-of-none _ i (sym (any-of-map (bad fallen₁) _ (G .moves p)) ∙ e₁))
+        (any-of-none _ i (sym (any-of-map (bad fallen₂) _ (G .moves p)) ∙ e₂)))
+    outcomes-both false m p j e₁ e₂ = played-both m _ _ e₁ e₂
 
-  good-both : (b : Bool) (m : ℕ) (keeps : ℕ → Bool) (v : ℕ) → goodBy b (withSafe G s₁) m keeps v ≡ true
-      → goodBy b (withSafe G s₂) m keeps v ≡ true
-      → goodBy b (withSafe G s) m keeps v ≡ true
+  good-both : (b : Bool) (m : ℕ) (keeps₁ keeps₂ : ℕ → Bool) (v : ℕ) → goodBy b (withSafe G s₁) m keeps₁ v ≡ true
+      → goodBy b (withSafe G s₂) m keeps₂ v ≡ true
+      → goodBy b (withSafe G s) m keeps₂ v ≡ true
   unfolding goodBy
-  good-both true m keeps v e₁ e₂ =
-      both-true _ _ (meet (G .start) (both-left _ _ e₁) (both-left _ _ e₂)) (both-right (s₁ (G .start)) _ e₁)
-  good-both false m keeps v e₁ e₂ = e₁
+  good-both true m keeps₁ keeps₂ v e₁ e₂ =
+      both-true _ _ (meet (G .start) (both-left _ _ e₁) (both-left _ _ e₂)) (both-right (s₂ (G .start)) _ e₂)
+  good-both false m keeps₁ keeps₂ v e₁ e₂ = e₂
 
-  pub judged-both : (d : ℕ) (T : Table) → Judged (withSafe G s₁) d T → Judged (withSafe G s₂) d T → Judged (withSafe G s) d T
+  pub judged-both : (d : ℕ) (T₁ T₂ : Table) → Inside T₂ T₁ → Judged (withSafe G s₁) d T₁ → Judged (withSafe G s₂) d T₂
+      → Judged (withSafe G s) d T₂
   unfolding initialWords arena words goodFrom spoiltBy step
-  judged-both d T j₁ j₂ =
+  judged-both d T₁ T₂ i j₁ j₂ =
       record {
-        words = λ v h f. good-both (odd d) _ _ v (j₁ .words v h f) (j₂ .words v h f);
-        right = j₁ .right;
-        safe = λ k h e. meet _ (j₁ .safe k h e) (j₂ .safe k h e);
-        unspoilt = λ k c h l a. outcomes-both (odd d) _ _ _ _ (j₁ .unspoilt k c h l a) (j₂ .unspoilt k c h l a);
+        words = λ v h f. good-both (odd d) _ _ _ v (j₁ .words v h (i .flags v f)) (j₂ .words v h f);
+        right = j₂ .right;
+        safe = λ k h e. meet _ (j₁ .safe k h (inside-has T₂ T₁ i k e)) (j₂ .safe k h e);
+        unspoilt =
+            λ k c h l a.
+            outcomes-both _ _ (odd d) _ _ _ (j₁ .unspoilt k c h l (i .masks k c a)) (j₂ .unspoilt k c h l a);
       }
+
+-- with more positions safe, what is judged stays judged
+pub judged-more : (G : Game) (s s′ : ℕ → Bool) → ((p : ℕ) → s p ≡ true → s′ p ≡ true) → (d : ℕ) (T : Table)
+    → Judged (withSafe G s) d T
+    → Judged (withSafe G s′) d T
+judged-more G s s′ more d T j = judged-both G s s s′ (λ p e e′. more p e) d T T (inside-self T) j j
 
 -- a notice
 
@@ -143,7 +154,7 @@ module _ (G : Game) (ps : List ℕ) where
     -- what is judged with positions closed is judged without
     pub close-more : Judged (close G ps) d T → Judged G d T
     unfolding close
-    close-more j = judged-both G (openIn G ps) (openIn G ps) (G .safe) (λ p e e′. open-safe p e) d T j j
+    close-more j = judged-more G (openIn G ps) (G .safe) open-safe d T j
 
 module _ (G : Game) (d : ℕ) (ps : List ℕ) (T : Table) where
   pub post-fits : Fits G d (post G d ps T)

@@ -3,7 +3,7 @@ use Prim.Native.Nat.{ℕ, zero, suc, _+_, _-_, _≤_, _<_}
 use mathlib.Core.Path.{_≡_, refl, sym, _∙_, ap, fun-ext}
 use mathlib.Core.Bool.{Bool, true, false, not, cond, true≢false, false≢true}
 use mathlib.Core.Logic.{_⊎_, inl, inr, ⊎-elim, _↔_}
-use mathlib.Core.List.{List, [], _∷_, map, List·Memᴰ, List·Memᴰ·head, List·Memᴰ·tail, List·Memᴰ·cases-cons, List·Memᴰ·not-nil}
+use mathlib.Core.List.{List, [], _∷_, _++_, map, List·Memᴰ, List·Memᴰ·head, List·Memᴰ·tail, List·Memᴰ·cases-cons, List·Memᴰ·not-nil}
 use mathlib.Core.Option.{none, some, Option·some-injective, Option·none-ne-some, Option·some-ne-none}
 use native.Mathlib.Omega.{arith}
 use native.Mathlib.Nat.{eq-or-lt-of-le, le-of-suc-le-suc, le-refl}
@@ -56,6 +56,11 @@ pub both-second : (a b : Bool) → a ≡ true → both a b ≡ b
 unfolding both
 both-second a b e = rw e
 
+pub both-first : (a b : Bool) → b ≡ true → both a b ≡ a
+unfolding both
+both-first true b e = e
+both-first false b e = refl
+
 pub either-left : (a b : Bool) → a ≡ true → either a b ≡ true
 unfolding either
 either-left a b p = rw p
@@ -87,6 +92,20 @@ pub either-first : (a b : Bool) → b ≡ false → either a b ≡ a
 unfolding either
 either-first true b e = refl
 either-first false b e = e
+
+-- a test inside the other adds nothing
+pub either-inside : (a b : Bool) → (b ≡ true → a ≡ true) → either a b ≡ a
+unfolding either
+either-inside true b f = refl
+either-inside false true f = sym (f refl)
+either-inside false false f = refl
+
+pub either-swap : (a b : Bool) → either a b ≡ either b a
+unfolding either
+either-swap true true = refl
+either-swap true false = refl
+either-swap false true = refl
+either-swap false false = refl
 
 pub either-assoc : (a b c : Bool) → either (either a b) c ≡ either a (either b c)
 unfolding either
@@ -436,6 +455,13 @@ module _ {A : Type 0} (p : A → Bool) where
       (λ (t : p y ≡ true). (y, (List·Memᴰ·head refl), t))
       (λ (t : anyOf p ys ≡ true). let r = any-of-some ys t in (r .0, List·Memᴰ·tail (r .1), r .2))
       (either-cases _ _ (rw (any-of-cons y ys) at e))
+
+pub any-of-append : {A : Type 0} (p : A → Bool) (xs ys : List A) → anyOf p (xs ++ ys) ≡ either (anyOf p xs) (anyOf p ys)
+any-of-append p [] ys = sym (either-second _ _ (any-of-nil p))
+any-of-append p (x ∷ xs) ys =
+    any-of-cons p x (xs ++ ys)
+    ∙ ap (either (p x)) (any-of-append p xs ys)
+    ∙ sym (ap (λ b. either b (anyOf p ys)) (any-of-cons p x xs) ∙ either-assoc _ _ _)
 
 pub any-of-map : {A B : Type 0} (p : B → Bool) (f : A → B) (xs : List A) → anyOf p (map f xs) ≡ anyOf (λ x. p (f x)) xs
 any-of-map p f [] = any-of-nil p ∙ sym (any-of-nil (λ x. p (f x)))

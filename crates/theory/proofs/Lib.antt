@@ -19,6 +19,7 @@ pub mod Judging
 pub mod OurTable
 pub mod Within
 pub mod Closing
+pub mod Notices
 pub mod NodeStrategy
 pub mod Monotone
 pub mod Exact

@@ -8,16 +8,16 @@ use mathlib.Core.List.{List·Memᴰ, Memᴰ·of-map}
 use native.Mathlib.Omega.{arith}
 use lib.Arith.{digits-lt, digits-div}
 use lib.ListN.{getD}
-use native.Mathlib.Nat.{mod-lt, one-le-pow}
+use native.Mathlib.Nat.{le-refl, mod-lt, one-le-pow}
 use borrow.Author.Tests.{eqb-false, ne-eqb, not-true}
 use Rattle.theory.specs.Game.{Game, Target, absent, to, Legal}
 use Rattle.theory.specs.Play.{Play}
 use Rattle.theory.specs.Strategy.{initialLength, Strategy, Wins}
 use Rattle.theory.specs.Rounds.{spoiltBy, masks}
 use Rattle.theory.specs.Delay.{odd, words, initialWords, onRight, movedTo, playedTo, outcomes, step, arena, goodFrom}
-use Rattle.theory.specs.Table.{Table, flagged, lacks, has, allows, Judged, node, Obeys}
+use Rattle.theory.specs.Table.{Table, flagged, lacks, has, allows, Judged, Inside, node, Obeys}
 use Rattle.theory.proofs.Fold.{bool, not-both}
-use Rattle.theory.proofs.Masks.{bit-some}
+use Rattle.theory.proofs.Masks.{bit-some, bits-le}
 use Rattle.theory.proofs.Rounds.{unspoilt, unspoilt-outcome}
 use Rattle.theory.proofs.Turns.{right-even, right-odd, to-injective, played-node, played-forbidden, played-passed, moved-passed}
 use Rattle.theory.proofs.Pending.{even-delay}
@@ -53,6 +53,21 @@ module _ (T : Table) where
   pub flag-flagged : (v : ℕ) → (getD (T .flags) v 0 ≡ 0 → ⊥) → flagged T v ≡ true
   unfolding flagged
   flag-flagged v n = rw (ne-eqb (getD (T .flags) v 0) 0 n)
+
+-- tables inside one another
+
+pub inside-self : (T : Table) → Inside T T
+inside-self T = record { flags = λ v f. f; masks = λ k c a. a }
+
+pub inside-trans : (T T′ T″ : Table) → Inside T T′ → Inside T′ T″ → Inside T T″
+inside-trans T T′ T″ i j = record { flags = λ v f. j .flags v (i .flags v f); masks = λ k c a. j .masks k c (i .masks k c a) }
+
+-- the outer one has a mask wherever the inner one does
+pub inside-has : (T T′ : Table) → Inside T T′ → (k : ℕ) → has T k ≡ true → has T′ k ≡ true
+unfolding allows
+inside-has T T′ i k e =
+    let l = bits-le _ (getD (T .masks) k 0) (getD (T′ .masks) k 0) (le-refl _) (i .masks k) in
+    mask-has T′ k (λ z. has-mask T k e (omega arith))
 
 -- a legal game has an action
 pub legal-actions : (G : Game) → Legal G → 0 < G .actions
