@@ -1,4 +1,4 @@
--- The theorems: demand 2 and demand 3 over bytes, and the starred cases.
+-- The theorems: the demands and what the requests ask, over bytes, and the starred cases.
 pub mod Demand2
 pub mod Reached
 pub mod Judged
@@ -6,5 +6,7 @@ pub mod Packets
 pub mod Accuracy
 pub mod Closed
 pub mod Posted
+pub mod Notices
 pub mod Computing
 pub mod Cases
+pub mod Orders

@@ -3,5 +3,6 @@ pub mod Demand2
 pub mod Judged
 pub mod Packets
 pub mod Posted
+pub mod Notices
 pub mod Reached
 pub mod cases

@@ -17,6 +17,7 @@ use Rattle.theory.specs.Buffer.{over}
 use Rattle.theory.specs.Closing.{listed, openIn, close}
 use Rattle.theory.proofs.Fold.{bool, below?, same?, both-none, both-false, both-second, either-left, either-second, all-none, all-again, all-fails, all-done}
 use Rattle.theory.proofs.Fold.{length-tabulate, getD-tabulate}
+use Rattle.theory.proofs.Notices.{listed-nil, listed-cons}
 use Rattle.theory.proofs.Filling.{filled, filled-none, filled-more, filled-over}
 use Rattle.sheet.specs.Kinds.{kindOf, kindAt, isController, isSafe, controllerAt, safeAt}
 use Rattle.sheet.specs.declared.kinds.Kind.the-variants.{Position, Invalid}
@@ -30,17 +31,9 @@ module _ (ps : List ℕ) (q : ℕ) where
   pub listed-start : listed ps q ≡ listed (drop 0 ps) q
   listed-start = refl
 
-  listed-cons : (x : ℕ) (l : List ℕ) → listed (x ∷ l) q ≡ either (eqb q x) (listed l q)
-  unfolding listed anyOf
-  listed-cons x l = refl
-
-  listed-nil : listed [] q ≡ false
-  unfolding listed anyOf
-  listed-nil = refl
-
   module _ (i : ℕ) (h : i < length ps) (e : listed ps q ≡ listed (drop i ps) q) where
     listed-here : listed ps q ≡ either (eqb q (getD ps i 0)) (listed (drop (suc i) ps) q)
-    listed-here = e ∙ ap (λ l. listed l q) (drop-cons ps i 0 h) ∙ listed-cons (getD ps i 0) (drop (suc i) ps)
+    listed-here = e ∙ ap (λ l. listed l q) (drop-cons ps i 0 h) ∙ listed-cons (getD ps i 0) (drop (suc i) ps) q
 
     pub listed-found : {b x : ℕ} → b ≡ x → x ≡ getD ps i 0 → b ≡ q → true ≡ listed ps q
     listed-found a c d = sym (listed-here ∙ either-left _ _ (eq-eqb q (getD ps i 0) (sym d ∙ a ∙ c)))
@@ -52,7 +45,7 @@ module _ (ps : List ℕ) (q : ℕ) where
         ∙ ap (λ j. listed (drop j ps) q) (sym (add-one i))
 
   pub listed-end : (i : ℕ) → length ps ≤ i → listed ps q ≡ listed (drop i ps) q → false ≡ listed ps q
-  listed-end i h e = sym (e ∙ ap (λ l. listed l q) (drop-of-length-le ps {i = i} h) ∙ listed-nil)
+  listed-end i h e = sym (e ∙ ap (λ l. listed l q) (drop-of-length-le ps {i = i} h) ∙ listed-nil q)
 
 pub ruleset listing = (needs, listed-start, listed-found, listed-next, listed-end)
 

@@ -54,7 +54,7 @@ use Rattle.text.proofs.Page.{written}
 use Rattle.writer.specs.SheetBytes.{headerOf, tableBytes, tableSheet, writtenSheet}
 use Rattle.writer.proofs.Readable.{sheet-ranged, few-words, table-short}
 use Rattle.writer.proofs.WriteLaws.{table-size, written-whole}
-use Rattle.notice.proofs.Accepted.{posted-length}
+use Rattle.notice.proofs.Accepted.{posting-checks, posted-length}
 use Rattle.notice.specs.Posting.{Written, sheetWith, fittedAnswer, postAnswer, posting, outputPosted, writtenOf, postingMeans}
 use Rattle.notice.specs.declared.posting.Posting.the-variants.{Posted, Emptied}
 use Rattle.notice.specs.code.Left.{leftOf, goodFlagsBy, startShut, keptFlag, keptFlagAt, keptAfter, numbersOf, Agreed, Postable, writtenWith, writtenLeft}
@@ -343,8 +343,7 @@ module _ (s : List ℕ) (l : Layout) (t : List ℕ) (x : TableLayout) (ps : List
 
   answer-is : posting s t ps out
       ≡ check (bytesBelow (length (positionsBody s)) ps) 23 (fittedAnswer s (post (gameOf s) (delayOf s) ps given) (length out))
-  unfolding postAnswer onAccepted
-  answer-is = rw (both .reads, both .shape) (check-passed _ 21 _ (both .agrees))
+  answer-is = posting-checks s t ps (length out) l (tableAt t x) (both .reads) (both .shape) (both .agrees)
 
   module _ {r : Bool} (e : r ≡ bytesBelow (l .positions .size) ps) where
     absent-is : not r ≡ true → posting s t ps out ≡ refused 23
