@@ -144,6 +144,11 @@ uint8_t lq_judge(const uint8_t *sheet, size_t sheet_len, const uint8_t *table, s
  *
  * On a sheet from lq_make it is what lq_make would give for the yard with those positions unsafe, at that lag, also where that yard loses
  * there. Where a first word remains, lq_judge says yes to the sheet, and a cabin that is opened on it never comes to a closed position.
+ *
+ * Notices may be posted one after another, each on the sheet that the one before left, with a first word or none: the sheet, *size and
+ * *remains are those of one notice with all their positions, in whatever order they come and however often they name a position. A notice
+ * that names no other positions than those before it, an empty one too, leaves such a sheet as it is, and so does an empty one a winning
+ * sheet from lq_make.
  */
 uint8_t lq_post(const uint8_t *sheet, size_t sheet_len, const uint8_t *table, size_t table_len, const uint8_t *notice, size_t notice_len,
                 uint8_t *out, size_t out_len, size_t *size, uint8_t *remains);

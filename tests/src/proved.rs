@@ -278,11 +278,16 @@ pub fn post_into(sheet: &[u8], table: &[u8], notice: &[u8], out: &mut [u8]) -> R
     Ok((size, remains == 1))
 }
 
-/// The sheet posted into an output of so many bytes, or the refusal's number. Nothing beyond the sheet is altered, nor behind the output,
-/// and nothing at all by a refusal.
+/// The sheet posted into an output of so many bytes with a pattern in it, or the refusal's number.
 pub fn post(sheet: &[u8], table: &[u8], notice: &[u8], room: usize) -> Result<Posted, u8> {
-    let before: Vec<u8> = (0..room + 8).map(|k| (k * 31 + 7) as u8).collect();
-    let mut out = before.clone();
+    let pattern: Vec<u8> = (0..room + 8).map(|k| (k * 31 + 7) as u8).collect();
+    post_over(sheet, table, notice, &pattern, room)
+}
+
+/// The same, the output being the front of these bytes. Nothing beyond the sheet is altered, nor behind the output, and nothing at all by a
+/// refusal.
+pub fn post_over(sheet: &[u8], table: &[u8], notice: &[u8], before: &[u8], room: usize) -> Result<Posted, u8> {
+    let mut out = before.to_vec();
     let answer = post_into(sheet, table, notice, &mut out[..room]);
     let written = answer.map_or(0, |(size, _)| size);
     assert_eq!(out[written..], before[written..], "bytes beyond the posted sheet were altered");

@@ -7,13 +7,14 @@ use loquatquoits_tests::counts::{count, report, Counts};
 use loquatquoits_tests::hubs::{Flaw, Hub, LINES};
 use loquatquoits_tests::judge::{self, Judgement};
 use loquatquoits_tests::naive::{self, Game, Rule};
+use loquatquoits_tests::notices::{any_notice, made_from, notice_of, NOTICES};
 use loquatquoits_tests::posting::{self, Posted};
 use loquatquoits_tests::proved;
 use loquatquoits_tests::random::Random;
 use loquatquoits_tests::sheets::{self, damage, random_yard, Shape, Yard};
 use loquatquoits_tests::tables::{
-    everything, faulty_sheet, faulty_table, flipped, near_numbers, numbers, ours, pairs_at, random_table, table_of, thinned, winning,
-    with_commands_at, with_commands_taken, without_masks,
+    everything, faulty_sheet, faulty_table, flipped, near_numbers, numbers, ours, random_table, table_of, winning, with_commands_taken,
+    without_masks,
 };
 use loquatquoits_tests::working::{self, any_choice};
 use loquatquoits_tests::worst::{orders, ring, worst, Worst};
@@ -49,56 +50,6 @@ const ANSWERS: [&str; 4] = [
     "something taken, no word remains",
     "nothing taken, no word remains",
 ];
-
-/// Kinds of notices: of positions that exist, but for the last.
-const NOTICES: [&str; 7] =
-    ["no position", "an own position", "a yard position", "the start", "several positions", "all positions", "a missing position"];
-
-fn notice_of(random: &mut Random, yard: &Yard, kind: &str) -> Vec<u8> {
-    let n = yard.kinds.len();
-    let mut all: Vec<u8> = (0..n).map(|p| p as u8).collect();
-    let of_side = |own: bool| all.iter().copied().filter(|&p| (yard.kinds[p as usize] < 2) == own).collect::<Vec<u8>>();
-    let mut some = |least: usize| (0..least + random.below(5)).map(|_| random.below(n) as u8).collect::<Vec<u8>>();
-    match kind {
-        "no position" => Vec::new(),
-        "an own position" => vec![*random.pick(&of_side(true))],
-        "a yard position" => vec![*random.pick(&of_side(false))],
-        "the start" => vec![yard.start],
-        "several positions" => some(2),
-        "all positions" => {
-            random.shuffle(&mut all);
-            all
-        }
-        _ => {
-            let mut notice = some(0);
-            let missing = n + *random.pick(&[0, 0, 1, 255 - n]);
-            notice.insert(random.below(notice.len() + 1), missing as u8);
-            notice
-        }
-    }
-}
-
-/// Any notice of positions that exist.
-fn any_notice(random: &mut Random, yard: &Yard) -> Vec<u8> {
-    let kind = *random.pick(&NOTICES[..6]);
-    notice_of(random, yard, kind)
-}
-
-/// Our table and ones made from it: sound parts, and tables that have too much or leave pairs without a way on.
-fn made_from(random: &mut Random, yard: &Yard, ours: &Table) -> Vec<(&'static str, Table)> {
-    let part = with_commands_taken(random, ours);
-    let sound = posting::post(&yard.sheet(), &part.sheet(), &[], part.sheet().len()).unwrap().sheet;
-    let wrong = pairs_at(yard, if yard.delay % 2 == 0 { [2, 3] } else { [0, 1] });
-    let all: Vec<usize> = (0..ours.masks.len()).collect();
-    vec![
-        ("ours", ours.clone()),
-        ("thinned", thinned(random, ours)),
-        ("a sound part", cabin::read_any(&sound).unwrap()),
-        ("commands taken", part),
-        ("commands added", with_commands_at(random, ours, &all)),
-        ("commands on the wrong side", with_commands_at(random, ours, &wrong)),
-    ]
-}
 
 #[test]
 fn random_tables() {
