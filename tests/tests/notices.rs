@@ -98,7 +98,7 @@ const ORDERS: [[usize; 3]; 6] = [[0, 1, 2], [0, 2, 1], [1, 0, 2], [1, 2, 0], [2,
 fn any_order() {
     let mut random = Random::new(206);
     let mut counts = Counts::new();
-    for round in 0..1400 {
+    for round in 0..2100 {
         let (yard, tables) = yard_with_tables(&mut random, (round % 7) as u8);
         let sheet = yard.sheet();
         for (name, table) in tables {
