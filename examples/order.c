@@ -36,7 +36,8 @@ static void show(const char *what, const sheet *s) {
 static sheet post(const char *what, const sheet *on, const uint8_t *notice, size_t notice_len) {
     sheet left = {{0}, 0};
     uint8_t remains;
-    uint8_t refusal = lq_post(BAYS, sizeof BAYS, on->bytes, on->len, notice, notice_len, left.bytes, sizeof left.bytes, &left.len, &remains);
+    uint8_t refusal =
+        lq_post(BAYS, sizeof BAYS, on->bytes, on->len, notice, notice_len, left.bytes, sizeof left.bytes, &left.len, &remains);
     if (refusal != 0) {
         printf("%s: refused %u\n", what, refusal);
         return left;
@@ -58,7 +59,9 @@ int main(void) {
     uint8_t losing;
     size_t reached;
     sheet ours;
-    if (lq_make(BAYS, sizeof BAYS, masks, 24, ranks, 24, ours.bytes, sizeof ours.bytes, &ours.len, &losing, &reached) != 0 || losing != LQ_WINS) {
+    uint8_t refusal =
+        lq_make(BAYS, sizeof BAYS, masks, 24, ranks, 24, ours.bytes, sizeof ours.bytes, &ours.len, &losing, &reached);
+    if (refusal != 0 || losing != LQ_WINS) {
         printf("no winning sheet\n");
         return 1;
     }

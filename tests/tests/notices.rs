@@ -1,6 +1,6 @@
-//! Several notices (W-206): posted one after another in every order, grouped, repeated and rearranged, they leave the same sheet and the same
-//! answer about first words as one notice of all their positions, on our tables, on others and on damaged ones that can still be read,
-//! also once no first word remains; refused ones are refused alike; and an empty notice leaves our own sheets unaltered.
+//! Several notices (W-206): posted one after another in every order, grouped, repeated and rearranged, they leave the same sheet and the
+//! same answer about first words as one notice of all their positions, on our tables, on others and on damaged ones that can still be
+//! read, also once no first word remains; refused ones are refused alike; and an empty notice leaves our own sheets unaltered.
 use loquatquoits_tests::cabin::{self, Table};
 use loquatquoits_tests::counts::{count, report, Counts};
 use loquatquoits_tests::judge::{self, Judgement};
@@ -77,7 +77,8 @@ fn yard_with_tables(random: &mut Random, delay: u8) -> (Yard, Vec<(&'static str,
     let (foreign, unflagged) = (random_table(random, &yard), random_table(random, &yard));
     let unflagged = Table { words: vec![0; unflagged.words.len()], ..unflagged };
     tables.push(("wholly random, damaged", damaged(random, &yard, &foreign.sheet())));
-    tables.extend([("wholly random", foreign), ("no word flagged", unflagged), ("everything", everything(&yard))].map(|(n, t)| (n, t.sheet())));
+    let others = [("wholly random", foreign), ("no word flagged", unflagged), ("everything", everything(&yard))];
+    tables.extend(others.map(|(name, table)| (name, table.sheet())));
     (yard, tables)
 }
 
@@ -135,7 +136,8 @@ fn any_order() {
     let answers = ["a word remains", "no word remains", "more is taken after the words have run out"];
     let by_lag = LAGS.flat_map(|lag| answers.map(|words| format!("lag {lag}: {words}")));
     let apart = LAGS.map(|lag| format!("lag {lag}: each notice takes something else"));
-    let by_table = TABLES.iter().flat_map(|name| answers.map(|words| format!("{name}: {words}"))).filter(|w| w != "no word flagged: a word remains");
+    let by_table = TABLES.iter().flat_map(|name| answers.map(|words| format!("{name}: {words}")));
+    let by_table = by_table.filter(|words| words != "no word flagged: a word remains");
     let run_out = TABLES[..4].iter().map(|name| format!("{name}: the words run out with the second"));
     report("any order", &counts, &by_lag.chain(apart).chain(by_table).chain(run_out).collect::<Vec<_>>());
 }
@@ -165,8 +167,8 @@ fn twice_is_once() {
     report("twice is once", &counts, &wanted.chain(remaining).chain(["ours: nothing taken, a word remains".into()]).collect::<Vec<_>>());
 }
 
-/// A list with repeats or in another order is the same notice, and two notices are refused as one is, for damaged sheets, positions that don't
-/// exist and short outputs too.
+/// A list with repeats or in another order is the same notice, and two notices are refused as one is, for damaged sheets, positions that
+/// don't exist and short outputs too.
 #[test]
 fn refused_alike() {
     let mut random = Random::new(20623);
@@ -176,7 +178,8 @@ fn refused_alike() {
         let first = any_notice(&mut random, &yard);
         let kind = *random.pick(&NOTICES);
         let second = notice_of(&mut random, &yard, kind);
-        let (mut sheet, mut table) = (yard.sheet(), if random.percent(50) { table.sheet() } else { random_table(&mut random, &yard).sheet() });
+        let table = if random.percent(50) { table } else { random_table(&mut random, &yard) };
+        let (mut sheet, mut table) = (yard.sheet(), table.sheet());
         let rooms = [0, table.len() - 1, table.len(), table.len() + 9];
         // the second on what the first left, or both at once
         let once = post(&mut random, &sheet, &table, &first);
@@ -207,8 +210,8 @@ fn refused_alike() {
     report("refused alike", &counts, &[&after[..], &numbers, &["rearranged: accepted".into()]].concat());
 }
 
-/// "An empty notice leaves our own tables unaltered", made ones and what notices left of them; of any table it takes something away exactly if
-/// the judging rule does not allow that table, whether or not a word is flagged.
+/// "An empty notice leaves our own tables unaltered", made ones and what notices left of them; of any table it takes something away exactly
+/// if the judging rule does not allow that table, whether or not a word is flagged.
 #[test]
 fn empty_notice() {
     let mut random = Random::new(0);
@@ -260,7 +263,8 @@ fn largest_tables() {
     report("largest tables", &counts, &["ours: a word remains", "everything: a word remains"].map(String::from));
 }
 
-/// The fork: either command leads to position 1, by 2 or by 3, and never back to the start. Small cases by hand, two notices in either order.
+/// The fork: either command leads to position 1, by 2 or by 3, and never back to the start. Small cases by hand, two notices in either
+/// order.
 #[test]
 fn by_hand() {
     let mut random = Random::new(1);
@@ -268,7 +272,8 @@ fn by_hand() {
     let fork = Yard { start: 0, actions: 2, delay: 0, kinds: vec![0, 0, 2, 2], targets: lines, moves: vec![[2, 1], [3, 1]] };
     let mut check = |lag: u8, words: [u8; 2], masks: &[u8], one: &[u8], other: &[u8], left: [u8; 2], masks_left: &[u8]| {
         let yard = fork.at(lag);
-        let of = |words: [u8; 2], masks: &[u8]| table_of(&yard, words.to_vec(), [masks, &vec![0; yard.pairs() - masks.len()]].concat()).sheet();
+        let filled = |masks: &[u8]| [masks, &vec![0; yard.pairs() - masks.len()]].concat();
+        let of = |words: [u8; 2], masks: &[u8]| table_of(&yard, words.to_vec(), filled(masks)).sheet();
         let expected = Posted { sheet: of(left, masks_left), remains: left.contains(&1) };
         for series in [&[one, other][..], &[other, one], &[&[one, other].concat()], &[one, other, one, other]] {
             assert_eq!(in_turn(&mut random, &yard.sheet(), &of(words, masks), series), expected, "lag {lag} {series:?}");

@@ -2,7 +2,7 @@
 -- table sheet that posting accepts; and an empty notice takes nothing from our own. Assumes nothing.
 use Prim.Native.Nat.{ℕ, _≤_}
 use mathlib.Core.Path.{_≡_, refl, sym, _∙_, ap, subst, fun-ext}
-use mathlib.Core.Bool.{Bool, true, false}
+use mathlib.Core.Bool.{true}
 use mathlib.Core.Logic.{_↔_}
 use mathlib.Core.List.{List, [], _∷_, _++_}
 use lib.ListN.{length}
@@ -30,7 +30,7 @@ use Rattle.writer.specs.SheetBytes.{tableSaid}
 use Rattle.writer.proofs.Readable.{Ranged, table-length, table-says, table-shape, sheet-ranged}
 use Rattle.maker.specs.Making.{tableSheetOf, won, makeAnswer}
 use Rattle.maker.proofs.Made.{made-parts, making-won}
-use Rattle.notice.specs.Posting.{sheetWith, fittedAnswer, postAnswer, outputPosted, writtenOf, posting}
+use Rattle.notice.specs.Posting.{sheetWith, postAnswer, outputPosted, writtenOf, posting}
 use Rattle.notice.proofs.Accepted.{Taken, taken, posting-checks, posting-is, posted-length, exist-none, exist-joined}
 use Rattle.claims.specs.Notices.{Accepts, sizeIn, sheetAfter, SamePosting, Unaltered, Series, first, next, named}
 use Rattle.claims.specs.Posted.{closedOf, Allowed}

@@ -3,7 +3,7 @@
 use Prim.Native.Nat.{ℕ, suc, _+_, _≤_, _<_}
 use mathlib.Core.Path.{_≡_, refl, sym, _∙_, ap, fun-ext}
 use mathlib.Core.Bool.{Bool, true, false, not, cond}
-use mathlib.Core.List.{List, [], _∷_}
+use mathlib.Core.List.{List}
 use mathlib.Core.Logic.{⊎-elim}
 use native.Mathlib.Omega.{arith}
 use native.Mathlib.Numerals.{add-one}
@@ -12,7 +12,7 @@ use lib.ListN.{length, getD, set, drop, drop-of-length-le}
 use lib.Seq.{drop-cons}
 use borrow.Author.Needs.{needs}
 use borrow.Author.Tests.{eq-eqb, ne-eqb, lt-ltb, le-ltb}
-use Rattle.theory.specs.Fold.{both, either, allBelow, anyOf}
+use Rattle.theory.specs.Fold.{both, either, allBelow}
 use Rattle.theory.specs.Buffer.{over}
 use Rattle.theory.specs.Closing.{listed, openIn, close}
 use Rattle.theory.proofs.Fold.{bool, below?, same?, both-none, both-false, both-second, either-left, either-second, all-none, all-again, all-fails, all-done}
