@@ -106,7 +106,7 @@ fn any_order() {
             let notices = [0; 3].map(|_| light_notice(&mut random, &yard));
             let all = posting::post(&sheet, &table, &notices.concat(), table.len()).unwrap();
             let first = post(&mut random, &sheet, &table, &notices[0]);
-            let both = posting::post(&sheet, &table, &notices[..2].concat(), table.len()).unwrap();
+            let both = post(&mut random, &sheet, &table, &notices[..2].concat());
             for [x, y] in [[0, 1], [1, 0]].map(|order| order.map(|k| &notices[k][..])) {
                 for series in [&[x, y][..], &[&[x, y].concat()]] {
                     assert_eq!(in_turn(&mut random, &sheet, &table, series), both, "{yard:?} {table:?} {series:?}");
