@@ -22,10 +22,11 @@ use Rattle.theory.proofs.Fold.{both-none, both-false, both-second, either-left,
 use Rattle.sheet.specs.Form.{partAt}
 use Rattle.sheet.specs.Limits.{mostWords, mostNodes}
 use Rattle.sheet.specs.Bodies.{delayOf}
+use Rattle.reader.specs.code.Laid.{gridAt}
 use Rattle.reader.specs.Reading.{readAnswer, readingMeans, refusalNumber}
 use Rattle.sheet.specs.Refusals.{numberOf}
 use Rattle.sheet.specs.SheetGame.{gameOf}
-use Rattle.sheet.specs.code.Arrays.{gridOf, firstsOf, viewOf, bodiesGame}
+use Rattle.sheet.specs.code.Arrays.{firstsOf, viewOf, bodiesGame}
 use Rattle.sheet.specs.declared.refusal.Refusal.{Refusal}
 use Rattle.reader.specs.declared.reading.Layout.{Layout}
 use Rattle.reader.specs.declared.reading.Reading.{Reading}
@@ -129,7 +130,7 @@ whole-here p g u f l marks masks k z h e q = rw (q, node-tested (length p) l k z
 
 pub ruleset wholes = (needs, whole-here)
 
--- the arrays of a sheet that was read; p, c and u are its P, C and U bodies
+-- the arrays of a sheet that was read; p and u are its P and U bodies
 
 module _ (s : List ℕ) (l : Layout) (reads : readAnswer s ≡ accepted l) (p : List ℕ) (ep : p ≡ partAt s (l .positions)) (v : Level)
     (made : v ≡ levelTo (length p) (l .start) (l .actions) (l .delay)) where
@@ -139,11 +140,10 @@ module _ (s : List ℕ) (l : Layout) (reads : readAnswer s ≡ accepted l) (p : 
   pub sized-here : Sized (length p) v
   sized-here = sized-read s (reading.Accepted l) (sym reads) l refl p ep v made
 
-  module _ (c u : List ℕ) (g : List (List ℕ)) (f : List ℕ) (ec : c ≡ partAt s (l .targets)) (eg : g ≡ gridOf c) (eu : u ≡ partAt s (l .moves))
-      (ef : f ≡ firstsOf u) where
+  module _ (u : List ℕ) (g : List (List ℕ)) (f : List ℕ) (eg : g ≡ gridAt s l) (eu : u ≡ partAt s (l .moves)) (ef : f ≡ firstsOf u) where
     game-here : viewOf p g u f (l .start) (l .actions) ≡ gameOf s
     unfolding bodiesGame
-    game-here = rw (eg, ef) (game-read s (reading.Accepted l) (sym reads) l refl p ep c u ec eu)
+    game-here = rw ef (game-read s (reading.Accepted l) (sym reads) l refl p ep g u eg eu)
 
     arena-here : arenaOf p g u f v ≡ arena (gameOf s) (delayOf s)
     arena-here =

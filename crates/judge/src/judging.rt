@@ -1,4 +1,5 @@
 // Judging a table sheet, whoever made it, against a game sheet: refusals 1 to 7, 10 to 12, then 21; then yes, or what offends first.
+use reader::arrays::grid_at;
 use reader::reading::Layout;
 use reader::reading::Reading;
 use reader::reading::read;
@@ -8,7 +9,6 @@ use rule::part::fill_marks;
 use sheet::form::byte;
 use sheet::form::part;
 use sheet::form::wide;
-use sheet::grid::grid_of;
 use sheet::limits::INDEX;
 use sheet::limits::MOST_NODES;
 use sheet::limits::MOST_WORDS;
@@ -164,11 +164,10 @@ fn first_bad_node(sheet: &[u8], l: Layout, masks: &[u8], marks: &[u16]) -> usize
         (suc (arena (gameOf (now (sheet .entry))) (delayOf (now (sheet .entry))) .nodes)) ⌝ }
 {
     let positions = l.positions;
-    let targets = l.targets;
     let moves = l.moves;
     let p = part(sheet, positions);
     let u = part(sheet, moves);
-    let grid = grid_of(part(sheet, targets));
+    let grid = grid_at(sheet, l);
     let firsts = first_lines(u);
     let level = level_at(p.len(), l.start, l.actions, l.delay);
     first_unsound(p, &grid, u, &firsts, level, masks, marks)

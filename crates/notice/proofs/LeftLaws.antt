@@ -24,8 +24,9 @@ use Rattle.sheet.specs.Form.{partAt}
 use Rattle.sheet.specs.Limits.{mostPositions, mostNodes}
 use Rattle.sheet.specs.Bodies.{delayOf}
 use Rattle.sheet.specs.SheetGame.{gameOf}
-use Rattle.sheet.specs.code.Arrays.{gridOf, firstsOf, viewOf, bodiesGame}
+use Rattle.sheet.specs.code.Arrays.{firstsOf, viewOf, bodiesGame}
 use Rattle.reader.specs.Reading.{readAnswer}
+use Rattle.reader.specs.code.Laid.{gridAt}
 use Rattle.reader.specs.declared.reading.Layout.{Layout}
 use Rattle.reader.specs.declared.reading.Reading.the-variants.{Accepted}
 use Rattle.reader.proofs.Accepted.{carries, few-nodes, arena-nodes}
@@ -47,10 +48,10 @@ use Rattle.notice.proofs.CloseLaws.{body-length, view-closed}
 
 -- the masks: pruned over the arrays of a sheet in which the notice's positions are closed
 
-pub arrays-pruned : (s : List ℕ) (l : Layout) (p before after : List ℕ) (c u : List ℕ) (g : List (List ℕ)) (f : List ℕ) (v : Level)
-    → c ≡ partAt s (l .targets) → u ≡ partAt s (l .moves) → g ≡ gridOf c → f ≡ firstsOf u
+pub arrays-pruned : (s : List ℕ) (l : Layout) (p before after : List ℕ) (u : List ℕ) (g : List (List ℕ)) (f : List ℕ) (v : Level)
+    → u ≡ partAt s (l .moves) → g ≡ gridAt s l → f ≡ firstsOf u
     → v ≡ levelTo (length p) (l .start) (l .actions) (l .delay) → PrunedLeft p g u f v before after → PrunedIn s l p before after
-arrays-pruned s l p before after c u g f v ec eu eg ef ev x = rw (← ec, ← eu, ← eg, ← ef, ← ev) x
+arrays-pruned s l p before after u g f v eu eg ef ev x = rw (← eu, ← eg, ← ef, ← ev) x
 
 pub ruleset pruning-arrays = (needs, arrays-pruned)
 
@@ -89,17 +90,17 @@ module _ (s : List ℕ) (l : Layout) (reads : readAnswer s ≡ accepted l) (ps :
   level = levelTo (length (closedBody P ps)) (l .start) (l .actions) (l .delay)
 
   abbrev shut : Arena
-  shut = arenaOf (closedBody P ps) (gridOf (partAt s (l .targets))) (partAt s (l .moves)) (firstsOf (partAt s (l .moves))) level
+  shut = arenaOf (closedBody P ps) (gridAt s l) (partAt s (l .moves)) (firstsOf (partAt s (l .moves))) level
 
   sized-shut : Sized (length (closedBody P ps)) level
   sized-shut = rw (body-length P ps) (sized-read s (Accepted l) (sym reads) l refl P refl _ refl)
 
-  game-shut : viewOf (closedBody P ps) (gridOf (partAt s (l .targets))) (partAt s (l .moves)) (firstsOf (partAt s (l .moves))) (l .start) (l .actions)
+  game-shut : viewOf (closedBody P ps) (gridAt s l) (partAt s (l .moves)) (firstsOf (partAt s (l .moves))) (l .start) (l .actions)
       ≡ close G ps
   unfolding bodiesGame
   game-shut =
       view-closed P ps _ _ _ (l .start) (l .actions)
-      ∙ ap (λ H. close H ps) (game-read s (Accepted l) (sym reads) l refl P refl (partAt s (l .targets)) (partAt s (l .moves)) refl refl)
+      ∙ ap (λ H. close H ps) (game-read s (Accepted l) (sym reads) l refl P refl (gridAt s l) (partAt s (l .moves)) refl refl)
 
   arena-shut : shut ≡ arena (close G ps) d
   arena-shut =

@@ -1,9 +1,9 @@
 // What a notice leaves of the masks, as numbers in a buffer of their own.
 use crate::closing::fill_closed;
 use prune::prune::prune;
+use reader::arrays::grid_at;
 use reader::reading::Layout;
 use sheet::form::part;
-use sheet::grid::grid_of;
 use sheet::limits::MOST_POSITIONS;
 use sheet::moves::first_lines;
 use text::bytes::put_text;
@@ -27,10 +27,9 @@ ghost use Rattle.notice.specs.code.Left.{PrunedIn, leftOf};
 fn prune_arrays(sheet: &[u8], l: Layout, p: &[u8], masks: &mut [u8])
     ensures { λ r. ⌜ PrunedIn (now (sheet .entry)) l (now (p .entry)) (now (masks .entry)) (now (masks .exit)) ⌝ }
 {
-    let targets = l.targets;
     let moves = l.moves;
     let u = part(sheet, moves);
-    let grid = grid_of(part(sheet, targets));
+    let grid = grid_at(sheet, l);
     let firsts = first_lines(u);
     let level = level_at(p.len(), l.start, l.actions, l.delay);
     prune(p, &grid, u, &firsts, level, masks);

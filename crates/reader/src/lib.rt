@@ -3,3 +3,4 @@ mod checks; // all positions, and the size
 pub mod lines; // the lines of the C and U bodies
 pub mod reading; // reading a game sheet
 mod reach; // how many positions lie on plays
+pub mod arrays; // the arrays of a sheet that was read

@@ -17,10 +17,11 @@ use Rattle.theory.proofs.Fold.{same-test, tabulate-zero, tabulate-same, length-
 use Rattle.theory.proofs.Tables.{good-more}
 use Rattle.sheet.specs.Form.{partAt}
 use Rattle.sheet.specs.Bodies.{positionsBody, startOf, delayOf}
+use Rattle.reader.specs.code.Laid.{gridAt}
 use Rattle.reader.specs.Reading.{readAnswer}
 use Rattle.reader.specs.Reading as reading
 use Rattle.sheet.specs.SheetGame.{gameOf}
-use Rattle.sheet.specs.code.Arrays.{gridOf, viewOf, firstsOf, bodiesGame}
+use Rattle.sheet.specs.code.Arrays.{viewOf, firstsOf, bodiesGame}
 use Rattle.sheet.specs.declared.refusal.Refusal.{Refusal}
 use Rattle.reader.specs.declared.reading.Layout.{Layout}
 use Rattle.reader.specs.declared.reading.Reading.{Reading}
@@ -110,17 +111,17 @@ module _ (s : List ℕ) (rd : Reading) (e : reading.readingMeans rd ≡ readAnsw
         let q : v .start ≡ startOf s = ap (λ (x : Level). x .start) is ∙ c .start in
         omega arith
 
-    game-here : (g : List (List ℕ)) → g ≡ gridOf (partAt s (l .targets))
+    game-here : (g : List (List ℕ)) → g ≡ gridAt s l
         → viewOf p g (partAt s (l .moves)) (firstsOf (partAt s (l .moves))) (l .start) (l .actions) ≡ gameOf s
     unfolding bodiesGame
-    game-here g eg = rw eg (game-read s rd e l a p ep (partAt s (l .targets)) (partAt s (l .moves)) refl refl)
+    game-here g eg = game-read s rd e l a p ep g (partAt s (l .moves)) eg refl
 
     count-here : {n : ℕ} → n ≡ firstWords v → n ≡ initialWords (gameOf s) (delayOf s)
     count-here en =
         en
         ∙ ap firstWords is
-        ∙ words-is p (gridOf (partAt s (l .targets))) (partAt s (l .moves)) (firstsOf (partAt s (l .moves))) (l .start) (l .actions) (l .delay)
-        ∙ rw (game-here (gridOf (partAt s (l .targets))) refl, carries s l answered .delay)
+        ∙ words-is p (gridAt s l) (partAt s (l .moves)) (firstsOf (partAt s (l .moves))) (l .start) (l .actions) (l .delay)
+        ∙ rw (game-here (gridAt s l) refl, carries s l answered .delay)
 
     pub small-count : (room : ℕ) {n : ℕ} → n ≡ firstWords v → room < n → 0 ≡ flagsCount s room
     unfolding flagsCount countIn
@@ -136,7 +137,7 @@ module _ (s : List ℕ) (rd : Reading) (e : reading.readingMeans rd ≡ readAnsw
         let c = count-here en in rw (answered, le-leb (initialWords (gameOf s) (delayOf s)) room (omega arith)) c
 
     -- the flags over the arrays are the game's
-    flag-is : (g : List (List ℕ)) → g ≡ gridOf (partAt s (l .targets)) → (ranks : List ℕ) (w : ℕ)
+    flag-is : (g : List (List ℕ)) → g ≡ gridAt s l → (ranks : List ℕ) (w : ℕ)
         → flagBy (goodIn p g v ranks) w ≡ flagWith (gameOf s) (delayOf s) ranks w
     unfolding flagBy flagWith
     flag-is g eg ranks w =
@@ -153,7 +154,7 @@ module _ (s : List ℕ) (rd : Reading) (e : reading.readingMeans rd ≡ readAnsw
       pub front-count : length (take n b) ≡ n
       front-count = length-take-le n b h
 
-      module _ (c : List ℕ) (g : List (List ℕ)) (t : List ℕ) (ec : c ≡ partAt s (l .targets)) (eg : g ≡ gridOf c)
+      module _ (g : List (List ℕ)) (t : List ℕ) (eg : g ≡ gridAt s l)
           (et : t ≡ tabulate (flagBy (goodIn p g v ranks)) 0 (firstWords v)) where
         t-length : length t ≡ n
         t-length = ap length et ∙ length-tabulate _ 0 (firstWords v) ∙ sym en
@@ -164,7 +165,7 @@ module _ (s : List ℕ) (rd : Reading) (e : reading.readingMeans rd ≡ readAnsw
         t-is : t ≡ tabulate (flagWith (gameOf s) (delayOf s) ranks) 0 (flagsCount s (length b))
         t-is =
             et
-            ∙ ap (λ f. tabulate f 0 (firstWords v)) (fun-ext (flag-is g (eg ∙ ap gridOf ec) ranks))
+            ∙ ap (λ f. tabulate f 0 (firstWords v)) (fun-ext (flag-is g eg ranks))
             ∙ ap (tabulate (flagWith (gameOf s) (delayOf s) ranks) 0) (sym en ∙ whole-count (length b) en h)
 
         pub written : t ++ drop n b ≡ flagsAfter s ranks b

@@ -9,11 +9,12 @@ use Rattle.sheet.specs.Bodies.{positionsBody}
 use Rattle.reader.specs.Reading.{readAnswer, readingMeans}
 use Rattle.sheet.specs.SheetGame.{gameOf}
 use Rattle.sheet.specs.code.Arrays.{bodiesGame}
+use Rattle.reader.specs.code.Laid.{gridAt}
 use Rattle.reader.specs.declared.reading.Layout.{Layout}
 use Rattle.reader.specs.declared.reading.Reading.{Reading}
 use Rattle.reader.specs.declared.reading.Reading.the-variants.{Accepted}
 use Rattle.reader.proofs.Accepted.{read-is, read-accepted, ranges, few-nodes, carries}
-use Rattle.reader.proofs.Bodies.{bodies-game}
+use Rattle.reader.proofs.Bodies.{laid-game}
 use Rattle.walk.specs.declared.level.Level.{Level}
 use Rattle.walk.specs.code.Levels.{Room, levelAt, levelTo}
 use Rattle.walk.specs.code.Nodes.{Sized}
@@ -40,11 +41,9 @@ module _ (s : List ℕ) (rd : Reading) (e : readingMeans rd ≡ readAnswer s) (l
         few-nodes = few-nodes s l answered;
       })
 
-  pub game-read : (c u : List ℕ) → c ≡ partAt s (l .targets) → u ≡ partAt s (l .moves)
-      → bodiesGame p c u (l .start) (l .actions) ≡ gameOf s
-  game-read c u ec eu =
-      let x = carries s l answered in
-      rw (positions-is, ec, eu, x .targets-part, x .moves-part, x .start, x .actions) (bodies-game s (read-is s l answered .0))
+  pub game-read : (g : List (List ℕ)) (u : List ℕ) → g ≡ gridAt s l → u ≡ partAt s (l .moves)
+      → bodiesGame p g u (l .start) (l .actions) ≡ gameOf s
+  game-read g u eg eu = rw (ep, eg, eu) (laid-game s l answered)
 
   module _ (v : Level) (made : v ≡ levelTo (length p) (l .start) (l .actions) (l .delay)) where
     pub is-level : v ≡ levelAt (length p) (l .start) (l .actions) (l .delay)

@@ -1,9 +1,9 @@
 // Good first words, once the ranks stand.
+use reader::arrays::grid_at;
 use reader::reading::Reading;
 use reader::reading::read;
 use sheet::form::part;
 use sheet::form::wide16;
-use sheet::grid::grid_of;
 use sheet::grid::target;
 use sheet::kinds::on_right;
 use sheet::kinds::safe_at;
@@ -145,8 +145,7 @@ pub fn initial_flags(sheet: &[u8], ranks: &[u16], flags: &mut [u8]) -> usize
     if flags.len() < n {
         return 0;
     }
-    let targets = l.targets;
-    let grid = grid_of(part(sheet, targets));
+    let grid = grid_at(sheet, l);
     fill_flags(p, &grid, level, ranks, &mut flags[..n]);
     n
 }

@@ -27,9 +27,10 @@ use Rattle.sheet.specs.Bodies.{delayOf}
 use Rattle.reader.specs.Reading.{readAnswer, refusalNumber}
 use Rattle.reader.specs.Reading as reading
 use Rattle.sheet.specs.SheetGame.{gameOf}
-use Rattle.sheet.specs.code.Arrays.{gridOf, viewOf, firstsOf, bodiesGame}
+use Rattle.sheet.specs.code.Arrays.{viewOf, firstsOf, bodiesGame}
 use Rattle.sheet.specs.declared.refusal.Refusal.{Refusal}
 use Rattle.sheet.specs.declared.refusal.Refusal.the-variants.{Buffers}
+use Rattle.reader.specs.code.Laid.{gridAt}
 use Rattle.reader.specs.declared.reading.Layout.{Layout}
 use Rattle.reader.specs.declared.reading.Reading.{Reading}
 use Rattle.reader.specs.declared.reading.Reading.the-variants.{Accepted, Refused}
@@ -171,12 +172,11 @@ pub ruleset filling =
     (needs, room-stop, after-length, sized-stop, ranks-room, masks-room, masks-front, ranks-count, most-stop, masks-ready, masks-length, fills)
 
 -- the arrays of a sheet's bodies
-module _ (p c u : List ℕ) (start actions delay : ℕ) (before-masks before : List ℕ)
-    (fillable : Fillable p c u start actions delay before-masks before)
-    (g : List (List ℕ)) (f : List ℕ) (eg : g ≡ gridOf c) (ef : f ≡ firstsOf u) where
-  game-here : bodiesGame p c u start actions ≡ viewOf p g u f start actions
+module _ (p : List ℕ) (g : List (List ℕ)) (u : List ℕ) (start actions delay : ℕ) (before-masks before : List ℕ)
+    (fillable : Fillable p g u start actions delay before-masks before) (f : List ℕ) (ef : f ≡ firstsOf u) where
+  game-here : bodiesGame p g u start actions ≡ viewOf p g u f start actions
   unfolding bodiesGame
-  game-here = rw (eg, ef)
+  game-here = rw ef
 
   pub bodies-can : (reaching lines leading cells : List ℕ) → Indexed u g delay reaching lines leading cells
       → Searchable p g u f reaching lines leading cells start actions delay before-masks before
@@ -191,7 +191,7 @@ module _ (p c u : List ℕ) (start actions delay : ℕ) (before-masks before : L
       }
 
   pub bodies-filled : {m k : List ℕ} {r : Stop} → Filled (viewOf p g u f start actions) delay before-masks before m k r
-      → Filled (bodiesGame p c u start actions) delay before-masks before m k r
+      → Filled (bodiesGame p g u start actions) delay before-masks before m k r
   bodies-filled filled = rw game-here filled
 
 -- arrays of zeros link nothing
@@ -279,8 +279,8 @@ module _ (s : List ℕ) (rd : Reading) (e : reading.readingMeans rd ≡ readAnsw
       unfolding ranksLeft
       ranks-kept-2 b m k h = rw (refuses-8 m k (few-ranks m k h))
 
-      -- both buffers have room, and c and u are the other bodies
-      module _ (m k : List ℕ) (hm : v .nodes ≤ length m) (hk : v .nodes ≤ length k) (c u : List ℕ) (ec : c ≡ partAt s (l .targets))
+      -- both buffers have room, and g and u are the grid and the U body
+      module _ (m k : List ℕ) (hm : v .nodes ≤ length m) (hk : v .nodes ≤ length k) (g : List (List ℕ)) (u : List ℕ) (eg : g ≡ gridAt s l)
           (eu : u ≡ partAt s (l .moves)) where
         solved : solveAnswer s (length m) (length k) ≡ accepted (record { verdict = answer (gameOf s) (delayOf s); layout = l })
         unfolding solveAnswer onAccepted
@@ -288,10 +288,10 @@ module _ (s : List ℕ) (rd : Reading) (e : reading.readingMeans rd ≡ readAnsw
             let n = nodes-read in
             rw answered (check-passed _ 8 _ (both-true _ _ (le-leb owed (length m) (omega arith)) (le-leb owed (length k) (omega arith))))
 
-        same-game : bodiesGame p c u (l .start) (l .actions) ≡ gameOf s
-        same-game = game-read s rd e l a p ep c u ec eu
+        same-game : bodiesGame p g u (l .start) (l .actions) ≡ gameOf s
+        same-game = game-read s rd e l a p ep g u eg eu
 
-        pub fillable-read : Fillable p c u (l .start) (l .actions) (l .delay) m k
+        pub fillable-read : Fillable p g u (l .start) (l .actions) (l .delay) m k
         fillable-read =
             let n = nodes-made in
             record {
@@ -303,7 +303,7 @@ module _ (s : List ℕ) (rd : Reading) (e : reading.readingMeans rd ≡ readAnsw
             }
 
         -- after filling
-        module _ (m′ k′ : List ℕ) (r : Stop) (filled : Filled (bodiesGame p c u (l .start) (l .actions)) (l .delay) m k m′ k′ r) where
+        module _ (m′ k′ : List ℕ) (r : Stop) (filled : Filled (bodiesGame p g u (l .start) (l .actions)) (l .delay) m k m′ k′ r) where
           filled-read : Filled (gameOf s) (delayOf s) m k m′ k′ r
           filled-read = rw (same-game, carries s l answered .delay) at filled
 

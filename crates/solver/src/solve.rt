@@ -4,11 +4,11 @@ use crate::delays::search;
 use crate::index::index;
 use crate::levels::mask_level;
 use crate::spread::CELLS;
+use reader::arrays::grid_at;
 use reader::reading::Layout;
 use reader::reading::Reading;
 use reader::reading::read;
 use sheet::form::part;
-use sheet::grid::grid_of;
 use sheet::limits::INDEX;
 use sheet::limits::MOST_MOVES;
 use sheet::limits::ROW;
@@ -80,10 +80,10 @@ fn fill_by(
     stop
 }
 
-// The same from the bodies. The grid, the index of moves and the chains are made once, for all delays.
+// The same from the grid and the bodies. The index of moves and the chains are made once, for all delays.
 fn fill(
     p: &[u8],
-    c: &[u8],
+    grid: &[[u16; ROW]; ROWS],
     u: &[u8],
     start: u8,
     actions: u8,
@@ -91,12 +91,11 @@ fn fill(
     masks: &mut [u8],
     ranks: &mut [u16],
 ) -> Stop
-    requires { ⌜ Fillable (now p) (now c) (now u) start actions delay (now masks) (now ranks) ⌝ }
+    requires { ⌜ Fillable (now p) (now grid) (now u) start actions delay (now masks) (now ranks) ⌝ }
     ensures { λ r.
-        ⌜ Filled (bodiesGame (now (p .entry)) (now (c .entry)) (now (u .entry)) start actions) delay
+        ⌜ Filled (bodiesGame (now (p .entry)) (now (grid .entry)) (now (u .entry)) start actions) delay
         (now (masks .entry)) (now (ranks .entry)) (now (masks .exit)) (now (ranks .exit)) r ⌝ }
 {
-    let grid = grid_of(c);
     let firsts = first_lines(u);
     let mut reaching = [0u16; INDEX];
     let mut lines = [0u16; MOST_MOVES];
@@ -104,7 +103,7 @@ fn fill(
     let mut cells = [0u16; CELLS];
     index(
         u,
-        &grid,
+        grid,
         delay,
         &mut reaching,
         &mut lines,
@@ -113,7 +112,7 @@ fn fill(
     );
     fill_by(
         p,
-        &grid,
+        grid,
         u,
         &firsts,
         &reaching,
@@ -146,11 +145,11 @@ pub fn solve(sheet: &[u8], masks: &mut [u8], ranks: &mut [u16]) -> Solution
     if ranks.len() < level.nodes {
         return Solution::Refused(Refusal::Buffers.number());
     }
-    let targets = l.targets;
     let moves = l.moves;
+    let grid = grid_at(sheet, l);
     let stop = fill(
         p,
-        part(sheet, targets),
+        &grid,
         part(sheet, moves),
         l.start,
         l.actions,

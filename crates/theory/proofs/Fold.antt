@@ -523,6 +523,17 @@ module _ {A : Type 0} where
       ∙ sym (getD-tabulate g n k x m ∙ other k e))
       (same? k v))
 
+  -- the last entry by itself
+  tabulate-last-from : (f : ℕ → A) (i n : ℕ) → tabulate f i (suc n) ≡ tabulate f i n ++ (f (i + n) ∷ [])
+  unfolding tabulate
+  tabulate-last-from f i zero = let q : i ≡ i + 0 = omega arith in ap (λ k. f k ∷ []) q
+  tabulate-last-from f i (suc n) =
+      let q : suc i + n ≡ i + suc n = omega arith in
+      ap (λ (l : List A). f i ∷ l) (tabulate-last-from f (suc i) n ∙ ap (λ k. tabulate f (suc i) n ++ (f k ∷ [])) q)
+
+  pub tabulate-last : (f : ℕ → A) (n : ℕ) → tabulate f 0 (suc n) ≡ tabulate f 0 n ++ (f n ∷ [])
+  tabulate-last f n = let q : 0 + n ≡ n = omega arith in tabulate-last-from f 0 n ∙ ap (λ k. tabulate f 0 n ++ (f k ∷ [])) q
+
   -- a range of a tabulated list that is over
   pub tabulate-none : (f : ℕ → A) (i e : ℕ) → e ≤ i → tabulate f i (e - i) ≡ []
   tabulate-none f i e h = let q : e - i ≡ 0 = omega arith in rw q (tabulate-zero f i)

@@ -15,8 +15,9 @@ use Rattle.sheet.specs.Limits.{mostNodes}
 use Rattle.sheet.specs.Form.{partAt}
 use Rattle.sheet.specs.Bodies.{delayOf}
 use Rattle.sheet.specs.SheetGame.{gameOf}
-use Rattle.sheet.specs.code.Arrays.{gridOf, firstsOf}
+use Rattle.sheet.specs.code.Arrays.{firstsOf}
 use Rattle.reader.specs.Reading.{readAnswer}
+use Rattle.reader.specs.code.Laid.{gridAt}
 use Rattle.reader.specs.declared.reading.Layout.{Layout}
 use Rattle.walk.specs.code.Levels.{levelTo}
 use Rattle.table.specs.TableSheet.{tableAt, shapeAnswer, someFlagged}
@@ -32,7 +33,7 @@ use Rattle.notice.specs.Posting.{Written, sheetWith}
 -- pruned over the arrays of a sheet with this layout and the P body p
 abbrev pub PrunedIn : List ℕ → Layout → List ℕ → List ℕ → List ℕ → Type 0
 PrunedIn s l p before after =
-    PrunedLeft p (gridOf (partAt s (l .targets))) (partAt s (l .moves)) (firstsOf (partAt s (l .moves)))
+    PrunedLeft p (gridAt s l) (partAt s (l .moves)) (firstsOf (partAt s (l .moves)))
     (levelTo (length p) (l .start) (l .actions) (l .delay)) before after
 
 -- the table that a notice leaves of these bodies

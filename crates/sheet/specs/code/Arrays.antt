@@ -68,6 +68,6 @@ tosBetween u i e = tabulate (toAt u) i (e - i)
 unfoldable pub viewOf : List ℕ → List (List ℕ) → List ℕ → List ℕ → ℕ → ℕ → Game
 viewOf p g u f start actions = gameBy p start actions (targetAt g) (λ q. tosBetween u (getD f q 0) (getD f (suc q) 0))
 
--- the game of the arrays that the bodies of a sheet fill
-unfoldable pub bodiesGame : List ℕ → List ℕ → List ℕ → ℕ → ℕ → Game
-bodiesGame p c u start actions = viewOf p (gridOf c) u (firstsOf u) start actions
+-- the game of a P body, a grid and a U body with its index
+unfoldable pub bodiesGame : List ℕ → List (List ℕ) → List ℕ → ℕ → ℕ → Game
+bodiesGame p g u start actions = viewOf p g u (firstsOf u) start actions

@@ -53,11 +53,11 @@ pub record Searchable (p : List ℕ) (g : List (List ℕ)) (u f reaching lines l
   pub moves : Lines (viewOf p g u f start actions) u
   pub indexed : Indexed u g delay reaching lines leading cells
 
--- bodies that the solver takes, and buffers with room for them
-pub record Fillable (p c u : List ℕ) (start actions delay : ℕ) (masks ranks : List ℕ) : Type 0 where
+-- bodies and a grid that the solver takes, and buffers with room for them
+pub record Fillable (p : List ℕ) (g : List (List ℕ)) (u : List ℕ) (start actions delay : ℕ) (masks ranks : List ℕ) : Type 0 where
   pub room : Room (length p) actions delay
-  pub legal : Legal (bodiesGame p c u start actions)
-  pub moves : Lines (bodiesGame p c u start actions) u
+  pub legal : Legal (bodiesGame p g u start actions)
+  pub moves : Lines (bodiesGame p g u start actions) u
   pub masks-room : nodesOf (length p) actions delay ≤ length masks
   pub ranks-room : nodesOf (length p) actions delay ≤ length ranks
 

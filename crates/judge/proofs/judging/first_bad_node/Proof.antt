@@ -7,5 +7,4 @@ pub first-bad-node-spec : {M : Type 1} → statement M
 first-bad-node-spec =
     tie.close
     (tie.spec (λ c κs. search node-laws) (λ c κs. search node-laws) (λ c κs. search node-laws)
-    (λ c κs. search node-laws) (λ c κs. search node-laws) (λ c κs. search node-laws) (λ c κs. search node-laws)
-    (λ c. search node-laws))
+    (λ c κs. search node-laws) (λ c κs. search node-laws) (λ c κs. search node-laws) (λ c. search node-laws))

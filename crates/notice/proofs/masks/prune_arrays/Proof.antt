@@ -6,4 +6,6 @@ use Rattle.notice.proofs.masks.prune_arrays.Tie as tie
 pub prune-arrays-spec : {M : Type 1} → statement M
 prune-arrays-spec =
     tie.close
-    (tie.spec (λ c κs. search pruning-arrays) (λ c κs. search pruning-arrays) (λ c κs. search pruning-arrays) (λ c κs. search pruning-arrays) (λ c κs. search pruning-arrays) (λ c κs. search pruning-arrays) (λ c. search pruning-arrays) (λ c. search pruning-arrays))
+    (tie.spec (λ c κs. search pruning-arrays) (λ c κs. search pruning-arrays) (λ c κs. search pruning-arrays)
+    (λ c κs. search pruning-arrays) (λ c κs. search pruning-arrays) (λ c. search pruning-arrays)
+    (λ c. search pruning-arrays))

@@ -8,5 +8,5 @@ initial-flags-spec =
     tie.close
     (tie.spec (λ c κs. search flagging) (λ c. search flagging) (λ c. search flagging) (λ c. search flagging)
     (λ c κs. search flagging) (λ c κs. search flagging) (λ c κs. search flagging) (λ c. search flagging)
-    (λ c κs. search flagging) (λ c κs. search flagging) (λ c. search flagging) (λ c. search flagging)
-    (λ c κs. search flagging) (λ c. search flagging) (λ c. search flagging))
+    (λ c κs. search flagging) (λ c. search flagging) (λ c. search flagging) (λ c κs. search flagging)
+    (λ c. search flagging) (λ c. search flagging))

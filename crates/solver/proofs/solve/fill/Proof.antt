@@ -20,24 +20,21 @@ index-requires c κs = (
 
 fill-by-requires : tie.Need-fill-by-requires
 fill-by-requires c κs =
-    let b12 = c .before .before .before .before .before .before .before .before .before .before .before .before in
-    let b18 = b12 .before .before .before .before .before .before in
-    let b19 = b18 .before in
-    let b25 = b19 .before .before .before .before .before .before in
-    let p = b25 .pre in
-    bodies-can _ _ _ _ _ _ _ _ p _ _ (b19 .grid-of .ensures) (b18 .first-lines .ensures) _ _ _ _ (b12 .index .ensures)
+    let b11 = c .before .before .before .before .before .before .before .before .before .before .before in
+    let b16 = b11 .before .before .before .before .before in
+    let b21 = b16 .before .before .before .before .before in
+    bodies-can _ _ _ _ _ _ _ _ (b21 .pre) _ (b16 .first-lines .ensures) _ _ _ _ (b11 .index .ensures)
 
 returns : tie.Need-returns
 returns c =
     let b4 = c .before .before .before .before in
-    let b14 = b4 .before .before .before .before .before .before .before .before .before .before in
-    let b23 = b14 .before .before .before .before .before .before .before .before .before in
-    let b24 = b23 .before in
-    let b30 = b24 .before .before .before .before .before .before in
-    bodies-filled _ _ _ _ _ _ _ _ (b30 .pre) _ _ (b24 .grid-of .ensures) (b23 .first-lines .ensures) (b4 .fill-by .ensures)
+    let b16 = b4 .before .before .before .before .before .before .before .before .before .before .before .before in
+    let b21 = b16 .before .before .before .before .before in
+    let b26 = b21 .before .before .before .before .before in
+    bodies-filled _ _ _ _ _ _ _ _ (b26 .pre) _ (b21 .first-lines .ensures) (b4 .fill-by .ensures)
 
 pub fill-spec : {M : Type 1} → statement M
 fill-spec =
     tie.close
-    (tie.spec (λ c κs. search needs) (λ c κs. search needs) (λ c. search needs) (λ c. search needs) (λ c. search needs)
+    (tie.spec (λ c κs. search needs) (λ c. search needs) (λ c. search needs) (λ c. search needs)
     (λ c. search needs) index-requires fill-by-requires (λ c. search needs) (λ c. search needs) returns)

@@ -12,7 +12,7 @@ returns-4 c =
     let v = j .before .before in
     let x = v .before .before .before .before in
     solves-won _ _ (x .before .before .read .ensures) _ (x .reading .given .1) _ (v .before .part .ensures) _ (v .level-at .ensures) _ _
-    (j .if1 .left) (i .if2 .left) _ _ (q .before .part2 .ensures) (q .part3 .ensures) _ _ _ (d .fill .ensures) (c .if3 .taken)
+    (j .if1 .left) (i .if2 .left) _ _ (q .before .before .grid-at .ensures) (q .part2 .ensures) _ _ _ (d .fill .ensures) (c .if3 .taken)
 
 returns-5 : tie.Need-returns-5
 returns-5 c =
@@ -23,7 +23,7 @@ returns-5 c =
     let v = j .before .before in
     let x = v .before .before .before .before in
     solves-lost _ _ (x .before .before .read .ensures) _ (x .reading .given .1) _ (v .before .part .ensures) _ (v .level-at .ensures) _ _
-    (j .if1 .left) (i .if2 .left) _ _ (q .before .part2 .ensures) (q .part3 .ensures) _ _ _ (d .fill .ensures) (c .if3 .left)
+    (j .if1 .left) (i .if2 .left) _ _ (q .before .before .grid-at .ensures) (q .part2 .ensures) _ _ _ (d .fill .ensures) (c .if3 .left)
 
 pub solve-spec : {M : Type 1} → statement M
 solve-spec =
