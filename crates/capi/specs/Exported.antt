@@ -45,6 +45,10 @@ placesAfter s places =
 abbrev pub readReached : List ℕ → ℕ → ℕ
 readReached s before = written (λ l. l .reached) (readAnswer s) before
 
+-- whether the gates hold: 1 where they do, else 0
+abbrev pub readHolding : List ℕ → ℕ → ℕ
+readHolding s before = written (λ l. cond (l .holding) 1 0) (readAnswer s) before
+
 -- the losing delay; 255, LQ_WINS, where the asked one wins
 abbrev pub losingNumber : Verdict → ℕ
 losingNumber wins = 255

@@ -7,12 +7,20 @@ use reader::reading::read;
 use solver::solve::Solution;
 use solver::solve::solve;
 ghost use mathlib.Core.Path.{_≡_};
+ghost use mathlib.Core.Bool.{cond};
 ghost use Rattle.reader.specs.Reading.{readAnswer};
 ghost use Rattle.solver.specs.Solving.{solving, masksSolved, ranksSolved};
-ghost use Rattle.capi.specs.Exported.{numberFor, headerAfter, placesAfter, readReached, losingAfter, solvedReached};
+ghost use Rattle.capi.specs.Exported.{numberFor, headerAfter, placesAfter, readReached, readHolding, losingAfter, solvedReached};
 
 // What stands for the losing delay where the asked one wins (LQ_WINS).
 pub(crate) const WINS: u8 = 255;
+
+// A bool as C callers have it.
+fn number_of(b: bool) -> u8
+    ensures { λ r. ⌜ r ≡ cond b 1 0 ⌝ }
+{
+    if b { 1 } else { 0 }
+}
 
 #[no_mangle]
 pub extern "C" fn lq_read(
@@ -20,11 +28,13 @@ pub extern "C" fn lq_read(
     header: &mut [u8; 3],
     places: &mut [usize; 8],
     reached: &mut usize,
+    holding: &mut u8,
 ) -> u8
     ensures number { λ r. ⌜ r ≡ numberFor (readAnswer (now (sheet .entry))) ⌝ }
     ensures header { λ r. ⌜ now (header .exit) ≡ headerAfter (now (sheet .entry)) (now (header .entry)) ⌝ }
     ensures places { λ r. ⌜ now (places .exit) ≡ placesAfter (now (sheet .entry)) (now (places .entry)) ⌝ }
     ensures reached { λ r. ⌜ now (reached .exit) ≡ readReached (now (sheet .entry)) (now (reached .entry)) ⌝ }
+    ensures holding { λ r. ⌜ now (holding .exit) ≡ readHolding (now (sheet .entry)) (now (holding .entry)) ⌝ }
 {
     let reading = read(sheet);
     let Reading::Accepted(l) = reading else {
@@ -42,6 +52,7 @@ pub extern "C" fn lq_read(
         l.moves.size,
     ];
     *reached = l.reached;
+    *holding = number_of(l.holding);
     0
 }
 

@@ -2,6 +2,7 @@
 -- with a rule and a list of calls. Assumes nothing.
 use Prim.Native.Nat.{ℕ, zero, suc, _-_, _<_}
 use mathlib.Core.Path.{_≡_, refl}
+use mathlib.Core.Bool.{false}
 use mathlib.Core.Logic.{⊎-elim}
 use mathlib.Core.List.{List, [], _∷_, map, List·Memᴰ, List·Memᴰ·head, List·Memᴰ·tail, List·Memᴰ·not-nil}
 use native.Mathlib.Omega.{arith}
@@ -9,7 +10,7 @@ use lib.ListN.{length, getD}
 use borrow.Author.Tests.{leb-true}
 use Rattle.theory.specs.Answer.{accepted}
 use Rattle.theory.specs.Game.{Game, Legal, to}
-use Rattle.theory.specs.Play.{last, IsRule}
+use Rattle.theory.specs.Play.{Play, IsPlay, last, IsRule}
 use Rattle.theory.proofs.Fold.{not-both}
 use Rattle.theory.proofs.Plays.{play-position}
 use Rattle.reader.specs.cases.Yards.{hall}
@@ -26,8 +27,8 @@ pub cases-met : map computed cases ≡ map accepted cases
 unfolding claims-compute resultBy lastMove positionsOf repliesTo answersBy playsBy computed alternating starred controllerCases packetCases
 cases-met = refl
 
--- the rule of the last move is one of the yard's
-member-at : (l : List ℕ) (i : ℕ) → i < length l → List·Memᴰ (getD l i 0) l
+-- a yard position of a play has a move, and the rule of the last move is one of the yard's
+pub member-at : (l : List ℕ) (i : ℕ) → i < length l → List·Memᴰ (getD l i 0) l
 member-at [] i h = absurd (omega arith)
 member-at (a ∷ l) zero h = List·Memᴰ·head refl
 member-at (a ∷ l) (suc i) h = List·Memᴰ·tail (member-at l i (omega arith))
@@ -36,15 +37,18 @@ some-member : (l : List ℕ) (r : ℕ) → List·Memᴰ r l → 0 < length l
 some-member [] r m = absurd (List·Memᴰ·not-nil m)
 some-member (a ∷ l) r m = omega arith
 
-pub last-rule : (G : Game) → Legal G → IsRule G (lastMove G)
-unfolding lastMove
-last-rule G legal π p e =
-    let some : 0 < length (G .moves (last G π)) =
+pub some-move : (G : Game) → Legal G → (π : Play) → IsPlay G π → G .controller (last G π) ≡ false → 0 < length (G .moves (last G π))
+some-move G legal π p e =
     ⊎-elim
     (λ (o : (c : ℕ) × (q : ℕ) × (G .target (last G π) c ≡ to q)).
     absurd (not-both (legal .targets _ (o .0) (o .1) (o .2) .from-controller) e))
     (λ (m : (r : ℕ) × List·Memᴰ r (G .moves (last G π))). some-member _ (m .0) (m .1))
-    (legal .live (last G π) (play-position legal p)) in
+    (legal .live (last G π) (play-position legal p))
+
+pub last-rule : (G : Game) → Legal G → IsRule G (lastMove G)
+unfolding lastMove
+last-rule G legal π p e =
+    let some = some-move G legal π p e in
     member-at (G .moves (last G π)) (length (G .moves (last G π)) - 1) (omega arith)
 
 pub hall-made : makeAnswer (hall 2) 14 14 49 ≡ accepted (won hallTable)

@@ -10,3 +10,4 @@ pub mod Notices
 pub mod Computing
 pub mod Cases
 pub mod Orders
+pub mod Gates

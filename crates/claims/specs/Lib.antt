@@ -5,4 +5,5 @@ pub mod Packets
 pub mod Posted
 pub mod Notices
 pub mod Reached
+pub mod Gates
 pub mod cases

@@ -75,7 +75,9 @@ small-refusal s =
     (small-check _ 1 _ (omega arith)
     (small-check _ 2 _ (omega arith)
     (small-check _ 3 _ (omega arith)
-    (small-check _ 4 _ (omega arith) (small-check _ 5 _ (omega arith) (small-check _ 6 _ (omega arith) (omega arith)))))))
+    (small-check _ 4 _ (omega arith)
+    (small-check _ 5 _ (omega arith)
+    (small-check _ 24 _ (omega arith) (small-check _ 6 _ (omega arith) (omega arith))))))))
     (λ l. small-check _ 7 (accepted l) (omega arith) (omega arith))
 
 -- the sizes of an accepted sheet's text

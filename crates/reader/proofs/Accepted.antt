@@ -2,10 +2,9 @@
 -- those of the bodies. Assumes nothing.
 use Prim.Native.Nat.{ℕ, zero, suc, _+_, _-_, _*_, _/_, _%_, _≤_, _<_}
 use mathlib.Core.Path.{_≡_, refl, sym, _∙_, ap}
-use mathlib.Core.Bool.{true}
+use mathlib.Core.Bool.{Bool, true, false, cond}
 use mathlib.Core.List.{List}
 use native.Mathlib.Omega.{arith}
-use lib.Dec.{lit<}
 use lib.ListN.{length, drop, length-drop}
 use lib.Seq.{length-take-le}
 use borrow.Author.Tests.{leb-true, eqb-true}
@@ -18,7 +17,7 @@ use Rattle.sheet.specs.Form.{offsetOf, lengthOf, placeOf, entryOk, contentsOk, 
 use Rattle.sheet.specs.Kinds.{controllerAt}
 use Rattle.reader.specs.Checks.{positionsOk, headerOk, targetsOk, movesOk, sizeOk}
 use Rattle.sheet.specs.Size.{nodesOf}
-use Rattle.sheet.specs.Bodies.{gameLetters, headerBody, positionsBody, targetsBody, movesBody, startOf, actionCount, delayOf}
+use Rattle.sheet.specs.Bodies.{gameLetters, gatedLetters, isGated, lettersOf, headerBody, positionsBody, targetsBody, movesBody, isHolding, startOf, actionCount, delayOf}
 use Rattle.reader.specs.Reading.{layoutOf, checkedAnswer, readAnswer, readingMeans, refusalNumber}
 use Rattle.sheet.specs.SheetGame.{gameOf}
 use Rattle.reader.specs.code.Steps.{Checked}
@@ -64,7 +63,7 @@ module _ (w : ℕ) (letters s : List ℕ) (ok : contentsOk w letters s ≡ true)
       length-take-le (lengthOf w s k) (drop (offsetOf w s k) s)
       (rw (length-drop (offsetOf w s k) s) (omega (arith, body-inside k h)))
 
--- six checks passed, or all seven
+-- all checks but 7 passed, or all
 
 module _ (s : List ℕ) (l : Layout) where
   pub checked-is : checkedAnswer s ≡ accepted l → Checked s × (l ≡ layoutOf s)
@@ -75,11 +74,13 @@ module _ (s : List ℕ) (l : Layout) where
       let c₃ = check-accepted _ _ _ (c₂ .1) in
       let c₄ = check-accepted _ _ _ (c₃ .1) in
       let c₅ = check-accepted _ _ _ (c₄ .1) in
-      let c₆ = check-accepted _ _ _ (c₅ .1) in (
+      let c₂₄ = check-accepted _ _ _ (c₅ .1) in
+      let c₆ = check-accepted _ _ _ (c₂₄ .1) in (
         record {
           headed = record { contents = c₁ .0; positions = c₂ .0; header = c₃ .0 };
           targets = c₄ .0;
           moves = c₅ .0;
+          gates = c₂₄ .0;
           leave = c₆ .0;
         },
         sym (accepted-same (c₆ .1)),
@@ -145,10 +146,21 @@ pub record Carries (s : List ℕ) (l : Layout) : Type 0 where
   pub targets-size : l .targets .size ≡ length (targetsBody s)
   pub moves-size : l .moves .size ≡ length (movesBody s)
   pub reached : l .reached ≡ reached (gameOf s)
+  pub holding : l .holding ≡ isHolding s
 
-carries-own : (s : List ℕ) → contentsOk 2 gameLetters s ≡ true → Carries s (layoutOf s)
+-- both kinds of sheet have S, P, C and U
+four-letters : (s : List ℕ) → 4 ≤ length (lettersOf s)
+unfolding lettersOf
+four-letters s = of-kind (isGated s)
+  where
+    of-kind : (b : Bool) → 4 ≤ length (cond b gatedLetters gameLetters)
+    of-kind true = omega arith
+    of-kind false = omega arith
+
+carries-own : (s : List ℕ) → contentsOk 2 (lettersOf s) s ≡ true → Carries s (layoutOf s)
 unfolding layoutOf bodyOf placedAt
 carries-own s ok =
+    let four = four-letters s in
     record {
       start = refl;
       actions = refl;
@@ -157,10 +169,11 @@ carries-own s ok =
       positions-part = refl;
       targets-part = refl;
       moves-part = refl;
-      positions-size = sym (body-length 2 gameLetters s ok 1 (lit< tt));
-      targets-size = sym (body-length 2 gameLetters s ok 2 (lit< tt));
-      moves-size = sym (body-length 2 gameLetters s ok 3 (lit< tt));
+      positions-size = sym (body-length 2 (lettersOf s) s ok 1 (omega arith));
+      targets-size = sym (body-length 2 (lettersOf s) s ok 2 (omega arith));
+      moves-size = sym (body-length 2 (lettersOf s) s ok 3 (omega arith));
       reached = refl;
+      holding = refl;
     }
 
 pub carries-checked : (s : List ℕ) (l : Layout) → checkedAnswer s ≡ accepted l → Carries s l

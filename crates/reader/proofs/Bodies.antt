@@ -14,7 +14,8 @@ use Rattle.theory.specs.Game.{Target, Game}
 use Rattle.theory.proofs.Fold.{bool, below?, all-at, first, first-suc, tabulate-zero, tabulate-suc, getD-tabulate, getD-tabulate-out}
 use Rattle.theory.specs.Answer.{accepted}
 use Rattle.sheet.specs.Form.{partAt}
-use Rattle.sheet.specs.Bodies.{positionsBody, targetsBody, movesBody, startOf, actionCount}
+use Rattle.sheet.specs.Bodies.{positionsBody, targetsBody, movesBody, isHolding, startOf, actionCount}
+use Rattle.gates.specs.code.Held.{heldGrid}
 use Rattle.sheet.specs.SheetGame.{movesIn, movesOf, gameBy, gameOf}
 use Rattle.reader.specs.code.Steps.{Checked}
 use Rattle.reader.specs.Reading.{readAnswer}
@@ -22,7 +23,7 @@ use Rattle.reader.specs.code.Laid.{gridAt}
 use Rattle.reader.specs.declared.reading.Layout.{Layout}
 use Rattle.reader.proofs.Accepted.{ranges, read-is, carries}
 use Rattle.reader.proofs.Legality.{legal, target-read, moves-ordered}
-use Rattle.sheet.specs.code.Arrays.{gridOf, lineCount, fromBelow, firstLine, firstsOf, toAt, tosBetween, viewOf, bodiesGame, indexEntries}
+use Rattle.sheet.specs.code.Arrays.{lineCount, fromBelow, firstLine, firstsOf, toAt, tosBetween, viewOf, bodiesGame, indexEntries}
 use Rattle.sheet.proofs.MoveLaws.{first-skips}
 use Rattle.sheet.specs.Limits.{mostPositions, mostMoves}
 
@@ -175,7 +176,8 @@ module _ (s : List ℕ) (r : Checked s) where
       (below? q mostPositions)
 
   -- the arrays' game is the sheet's
-  pub bodies-game : bodiesGame (positionsBody s) (gridOf (targetsBody s)) (movesBody s) (startOf s) (actionCount s) ≡ gameOf s
+  pub bodies-game : bodiesGame (positionsBody s) (heldGrid (isHolding s) (actionCount s) (targetsBody s)) (movesBody s) (startOf s) (actionCount s)
+      ≡ gameOf s
   unfolding bodiesGame viewOf gameOf
   bodies-game =
       ap (λ (t : ℕ → ℕ → Target). with t (λ q. tosBetween (movesBody s) (getD (firstsOf (movesBody s)) q 0) (getD (firstsOf (movesBody s)) (suc q) 0)))
@@ -191,10 +193,11 @@ pub laid-game : (s : List ℕ) (l : Layout) → readAnswer s ≡ accepted l
 unfolding gridAt
 laid-game s l e =
     let x = carries s l e in
-    rw (x .positions-part, x .targets-part, x .moves-part, x .start, x .actions) (bodies-game s (read-is s l e .0))
+    rw (x .positions-part, x .targets-part, x .moves-part, x .start, x .actions, x .holding) (bodies-game s (read-is s l e .0))
 
-pub grid-laid : (s : List ℕ) (l : Layout) {c : List ℕ} {g : List (List ℕ)} → c ≡ partAt s (l .targets) → g ≡ gridOf c → g ≡ gridAt s l
+pub grid-laid : (s : List ℕ) (l : Layout) {c : List ℕ} {n : ℕ} {g : List (List ℕ)} → c ≡ partAt s (l .targets) → n ≡ l .actions
+    → g ≡ heldGrid (l .holding) n c → g ≡ gridAt s l
 unfolding gridAt
-grid-laid s l e f = f ∙ ap gridOf e
+grid-laid s l e i f = rw (f, e, i)
 
 pub ruleset laying-out = (needs, grid-laid)

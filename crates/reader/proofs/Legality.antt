@@ -1,6 +1,6 @@
 -- An accepted game sheet means a legal game (Definition 1), and its targets can be read off the grid. Assumes nothing.
 use Prim.Native.Nat.{ℕ, zero, suc, _+_, _-_, _*_, _/_, _≤_, _<_}
-use mathlib.Core.Path.{_≡_, refl, sym, _∙_, ap}
+use mathlib.Core.Path.{_≡_, refl, sym, _∙_, ap, fun-ext}
 use mathlib.Core.Bool.{true, false, cond}
 use mathlib.Core.Logic.{_⊎_, inl, inr, ⊎-elim}
 use mathlib.Core.List.{List, [], _∷_, List·Memᴰ, List·Memᴰ·head, List·Memᴰ·cases-cons, List·Memᴰ·not-nil}
@@ -11,12 +11,17 @@ use borrow.Author.Tests.{ltb-true, lt-ltb, le-ltb, eqb-true, eq-eqb, ne-eqb}
 use Rattle.theory.specs.Fold.{both}
 use Rattle.theory.specs.Answer.{accepted}
 use Rattle.theory.specs.Game.{Target, absent, to, Legal, LegalTarget, LegalMove}
+use Rattle.theory.specs.Holding.{held}
+use Rattle.theory.proofs.Holding.{which, completed-legal}
+use Rattle.theory.proofs.Turns.{absent-not-to}
 use Rattle.theory.proofs.Fold.{bool, not-both, both-true, both-left, both-right, all-at, any-some, below-cases, below?, either-second}
 use Rattle.sheet.specs.Kinds.{kindAt, isController, isEnvironment, controllerAt, environmentAt}
 use Rattle.reader.specs.Checks.{keyAt, targetOk, targetsOk, moveOk, movesOk, risesAt, beginsAt, hasLine, leavesAt, allLeave}
-use Rattle.sheet.specs.Bodies.{positionsBody, targetsBody, movesBody, startOf, actionCount}
+use Rattle.sheet.specs.Bodies.{positionsBody, targetsBody, movesBody, isHolding, startOf, actionCount}
+use Rattle.gates.specs.code.Held.{heldGrid}
+use Rattle.gates.proofs.HoldLaws.{held-means}
 use Rattle.reader.specs.Reading.{readAnswer}
-use Rattle.sheet.specs.SheetGame.{isLine, targetIn, targetOf, movesIn, movesOf, gameOf}
+use Rattle.sheet.specs.SheetGame.{isLine, targetIn, targetOf, movesIn, movesOf, writtenGame, gameOf}
 use Rattle.reader.specs.code.Steps.{Checked}
 use Rattle.sheet.specs.code.Arrays.{markOf, unmark, gridOf, targetAt, absentMark}
 use Rattle.sheet.proofs.GridLaws.{target-next, cell-at, row-at}
@@ -62,9 +67,6 @@ module _ (c : List ℕ) (q x : ℕ) where
     pub is-line : isLine c q x k ≡ true
     pub leads : t ≡ getD c (3 * k + 2) 0
 
-  absent-not : {t : ℕ} → absent ≡ to t → ⊥
-  absent-not e = let z : _≡_ {A = ℕ} 0 1 = cc in omega arith
-
   to-same : {t u : ℕ} → to u ≡ to t → t ≡ u
   to-same e = cc
 
@@ -74,7 +76,7 @@ module _ (c : List ℕ) (q x : ℕ) where
 
   pub line-of : (t n : ℕ) → targetIn c q x n ≡ to t → (k : ℕ) × Line t n k
   unfolding targetIn
-  line-of t zero e = absurd (absent-not e)
+  line-of t zero e = absurd (absent-not-to e)
   line-of t (suc n) e =
       ⊎-elim
       (λ (h : isLine c q x n ≡ true). line-last t n e h)
@@ -185,8 +187,8 @@ module _ (p u : List ℕ) (ok : movesOk p u ≡ true) (k : ℕ) (h : k < length 
 -- the accepted sheet
 
 module _ (s : List ℕ) (r : Checked s) where
-  legal-target : (p x q : ℕ) → targetOf (targetsBody s) p x ≡ to q → LegalTarget (gameOf s) p x q
-  unfolding gameOf targetOf isLine
+  legal-target : (p x q : ℕ) → targetOf (targetsBody s) p x ≡ to q → LegalTarget (writtenGame s) p x q
+  unfolding targetOf isLine
   legal-target p x q e =
       let found = line-of (targetsBody s) p x q (length (targetsBody s) / 3) e in
       let k = found .0 in
@@ -203,8 +205,8 @@ module _ (s : List ℕ) (r : Checked s) where
         environment = environment-not (positionsBody s) q environment;
       }
 
-  legal-move : (p q : ℕ) → List·Memᴰ q (movesOf (movesBody s) p) → LegalMove (gameOf s) p q
-  unfolding gameOf movesOf
+  legal-move : (p q : ℕ) → List·Memᴰ q (movesOf (movesBody s) p) → LegalMove (writtenGame s) p q
+  unfolding movesOf
   legal-move p q m =
       let found = move-of (movesBody s) p q 0 (length (movesBody s) / 2) m in
       let k = found .0 in
@@ -253,9 +255,8 @@ module _ (s : List ℕ) (r : Checked s) where
       (λ (f : controllerAt (positionsBody s) p ≡ false). inr (live-environment p (rw f at (leaves p h))))
       (bool (controllerAt (positionsBody s) p))
 
-  pub legal : Legal (gameOf s)
-  unfolding gameOf
-  legal =
+  legal-written : Legal (writtenGame s)
+  legal-written =
       record {
         start-position = controller-inside (positionsBody s) (startOf s) (ranges s r .own-start);
         start-controller = ranges s r .own-start;
@@ -264,11 +265,11 @@ module _ (s : List ℕ) (r : Checked s) where
         live = live-at;
       }
 
-  -- reading the grid
+  pub legal : Legal (gameOf s)
+  unfolding gameOf
+  legal = completed-legal (isHolding s) (writtenGame s) legal-written
 
-  which : (t : Target) → (t ≡ absent) ⊎ ((q : ℕ) × (t ≡ to q))
-  which absent = inl refl
-  which (to q) = inr (q, refl)
+  -- reading the grid
 
   unmarked : (t : Target) → ((q : ℕ) → t ≡ to q → q < mostPositions) → unmark (markOf t) ≡ t
   unfolding unmark markOf
@@ -276,11 +277,9 @@ module _ (s : List ℕ) (r : Checked s) where
   unmarked (to q) f = rw (ne-eqb q absentMark (λ e. omega (arith, f q refl)))
 
   small-target : (p x q : ℕ) → targetOf (targetsBody s) p x ≡ to q → q < mostPositions
-  unfolding gameOf
   small-target p x q e = omega (arith, legal-target p x q e .position, ranges s r .few-positions)
 
   outside : (p x : ℕ) → both (ltb p mostPositions) (ltb x mostActions) ≡ false → targetOf (targetsBody s) p x ≡ absent
-  unfolding gameOf
   outside p x f =
       ⊎-elim
       (λ (e : targetOf (targetsBody s) p x ≡ absent). e)
@@ -298,15 +297,22 @@ module _ (s : List ℕ) (r : Checked s) where
       rw (row-at (targetsBody s) (length (targetsBody s) / 3) p h, cell-at (targetsBody s) (length (targetsBody s) / 3) p x l)
       (sym (unmarked (targetOf (targetsBody s) p x) (small-target p x)))
 
-  -- the targets of the game are what the grid of the C body says, at every position and action
-  pub target-read : (p x : ℕ) → gameOf s .target p x ≡ targetAt (gridOf (targetsBody s)) p x
-  unfolding gameOf targetAt
-  target-read p x =
+  -- the targets on the lines are what the grid of the C body says, at every position and action
+  line-read : (p x : ℕ) → targetOf (targetsBody s) p x ≡ targetAt (gridOf (targetsBody s)) p x
+  unfolding targetAt
+  line-read p x =
       ⊎-elim
       (λ (t : both (ltb p mostPositions) (ltb x mostActions) ≡ true).
       rw t (inside p x (ltb-true _ _ (both-left _ _ t)) (ltb-true _ _ (both-right _ _ t))))
       (λ (f : both (ltb p mostPositions) (ltb x mostActions) ≡ false). rw f (outside p x f))
       (bool (both (ltb p mostPositions) (ltb x mostActions)))
+
+  -- and the targets of the game what the completed one says
+  pub target-read : (p x : ℕ) → gameOf s .target p x ≡ targetAt (heldGrid (isHolding s) (actionCount s) (targetsBody s)) p x
+  unfolding gameOf
+  target-read p x =
+      ap (λ (t : ℕ → ℕ → Target). held (isHolding s) (actionCount s) t p x) (fun-ext (λ q. fun-ext (line-read q)))
+      ∙ sym (held-means (isHolding s) (actionCount s) (targetsBody s) (ranges s r .few-actions) p x)
 
 -- the lines of the C and U bodies, for those who walk them
 

@@ -1,5 +1,6 @@
 -- Laws of the definitions of specs/, on which the proofs of the functions rest.
 pub mod CheckLaws
+pub mod GateLaws
 pub mod Accepted
 pub mod ReadLaws
 pub mod Legality

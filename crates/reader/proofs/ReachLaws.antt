@@ -20,10 +20,11 @@ use Rattle.theory.proofs.Fold.{length-tabulate, getD-tabulate, getD-tabulate-ou
 use Rattle.theory.proofs.Reach.{leads-on, leads-inside, closed-count, on-inside}
 use Rattle.sheet.specs.Limits.{mostPositions}
 use Rattle.sheet.specs.Form.{bodyOf}
-use Rattle.sheet.specs.Bodies.{headerBody, targetsBody, movesBody, startOf, actionCount}
+use Rattle.sheet.specs.Bodies.{headerBody, targetsBody, movesBody, isHolding, startOf, actionCount}
+use Rattle.gates.specs.code.Held.{heldGrid}
 use Rattle.sheet.specs.SheetGame.{gameOf}
 use Rattle.reader.specs.code.Steps.{Checked}
-use Rattle.sheet.specs.code.Arrays.{absentMark, unmark, gridOf, targetAt, firstsOf, toAt, tosBetween, viewOf, bodiesGame}
+use Rattle.sheet.specs.code.Arrays.{absentMark, unmark, targetAt, firstsOf, toAt, tosBetween, viewOf, bodiesGame}
 use Rattle.reader.specs.code.Reaching.{Queue, queueOf, marked, Queued, marksWith, Grown, isPosition, byAction, byLine, byMove}
 use Rattle.sheet.proofs.GridLaws.{unmark-absent, unmark-to}
 use Rattle.reader.proofs.Accepted.{ranges}
@@ -366,7 +367,8 @@ module _ (s : List ℕ) (r : Checked s) where
   unfolding gameOf
   few = ranges s r .few-positions
 
-  leads-read : (q : ℕ) → byMove (gridOf (targetsBody s)) (movesBody s) (firstsOf (movesBody s)) (actionCount s) q ≡ leads (gameOf s) q
+  leads-read : (q : ℕ)
+      → byMove (heldGrid (isHolding s) (actionCount s) (targetsBody s)) (movesBody s) (firstsOf (movesBody s)) (actionCount s) q ≡ leads (gameOf s) q
   unfolding leads bodiesGame viewOf byMove byAction byLine
   leads-read q = ap (λ (G : Game). leads G q) (bodies-game s r)
 
@@ -375,15 +377,17 @@ module _ (s : List ℕ) (r : Checked s) where
   unfolding gameOf startOf
   reach-start x y z a = search-start (gameOf s) (legal s r) few no-mark (rw (z, y, x) at a)
 
-  pub reach-next : (n q : ℕ) {c u f h : List ℕ} {g : List (List ℕ)} {b a : ℕ} {v w : Queue} → c ≡ bodyOf 2 s 2 → u ≡ bodyOf 2 s 3 → g ≡ gridOf c
-      → f ≡ firstsOf u → h ≡ bodyOf 2 s 0 → b ≡ getD h 1 0 → a ≡ b → Searched (gameOf s) v n → n < v .size → q ≡ getD (v .entries) n 0
+  pub reach-next : (n q : ℕ) {c u f h : List ℕ} {g : List (List ℕ)} {o : Bool} {b a : ℕ} {v w : Queue} → c ≡ bodyOf 2 s 2 → u ≡ bodyOf 2 s 3
+      → o ≡ isHolding s → g ≡ heldGrid o a c → f ≡ firstsOf u → h ≡ bodyOf 2 s 0 → b ≡ getD h 1 0 → a ≡ b → Searched (gameOf s) v n → n < v .size → q ≡ getD (v .entries) n 0
       → Grown (byMove g u f a q) v w → Searched (gameOf s) w (n + 1)
   unfolding actionCount
-  reach-next n q {c} {u} {f} {h} {g} {b} {a} {v} {w} ec eu eg ef eh eb ea x l e y =
+  reach-next n q {c} {u} {f} {h} {g} {o} {b} {a} {v} {w} ec eu eo eg ef eh eb ea x l e y =
       search-next (gameOf s) (legal s r) few n q x l e (rw (same ∙ leads-read q) at y)
     where
-      same : byMove g u f a q ≡ byMove (gridOf (targetsBody s)) (movesBody s) (firstsOf (movesBody s)) (getD (headerBody s) 1 0) q
-      same = rw (eg, ef, ec, eu, ea, eb, eh)
+      same : byMove g u f a q
+          ≡ byMove (heldGrid (isHolding s) (getD (headerBody s) 1 0) (targetsBody s)) (movesBody s) (firstsOf (movesBody s))
+          (getD (headerBody s) 1 0) q
+      same = rw (eg, ef, ec, eu, eo, ea, eb, eh)
 
   pub reach-done : (n : ℕ) {m : List Bool} {q : List ℕ} {k : ℕ} → Searched (gameOf s) (queueOf m q k) n → k ≤ n → k ≡ reached (gameOf s)
   reach-done n x h = search-done (gameOf s) (legal s r) few n x h

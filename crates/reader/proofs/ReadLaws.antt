@@ -12,12 +12,12 @@ use Rattle.theory.specs.Reach.{reached}
 use Rattle.theory.proofs.Answer.{check-passed}
 use Rattle.theory.proofs.Fold.{both-left, both-right, failed, passed}
 use Rattle.sheet.specs.Form.{contentsOk, placedAt, partAt, bodyOf}
-use Rattle.reader.specs.Checks.{positionsOk, headerOk, targetsOk, movesOk, allLeave, sizeOk}
+use Rattle.reader.specs.Checks.{positionsOk, headerOk, targetsOk, movesOk, gatesOk, allLeave, sizeOk}
 use Rattle.sheet.specs.SheetGame.{gameOf}
 use Rattle.reader.specs.code.Steps.{linesAnswer, Headed, Checked}
 use Rattle.reader.proofs.Accepted.{checked-is, ranges, carries-checked}
 use Rattle.sheet.specs.Refusals.{numberOf}
-use Rattle.sheet.specs.Bodies.{gameLetters, startOf, actionCount, delayOf}
+use Rattle.sheet.specs.Bodies.{lettersOf, isHolding, startOf, actionCount, delayOf}
 use Rattle.reader.specs.Reading.{layoutOf, checkedAnswer, readAnswer, readingMeans, refusalNumber}
 use Rattle.sheet.specs.declared.form.Place.{Place}
 use Rattle.sheet.specs.declared.refusal.Refusal.{Refusal}
@@ -31,15 +31,16 @@ refused-told r x n e f = f ∙ ap refusalNumber (sym e)
 
 pub ruleset numbers = (needs, refused-told)
 
-pub layout-is : (s h : List ℕ) (a b d n : ℕ) (x y z w : Place) → h ≡ bodyOf 2 s 0 → a ≡ getD h 0 0 → b ≡ getD h 1 0 → d ≡ getD h 2 0
+pub layout-is : (s h : List ℕ) (a b d n : ℕ) (x y z w : Place) (o : Bool) → h ≡ bodyOf 2 s 0 → a ≡ getD h 0 0 → b ≡ getD h 1 0 → d ≡ getD h 2 0
     → x ≡ placedAt 2 s 0 → y ≡ placedAt 2 s 1 → z ≡ placedAt 2 s 2 → w ≡ placedAt 2 s 3 → n ≡ reached (gameOf s)
-    → record { start = a; actions = b; delay = d; header = x; positions = y; targets = z; moves = w; reached = n } ≡ layoutOf s
+    → o ≡ isHolding s
+    → record { start = a; actions = b; delay = d; header = x; positions = y; targets = z; moves = w; reached = n; holding = o } ≡ layoutOf s
 unfolding layoutOf startOf actionCount delayOf
-layout-is s h a b d n x y z w e f g i j k l m o = rw (f, g, i, e, j, k, l, m, o)
+layout-is s h a b d n x y z w o e f g i j k l m p q = rw (f, g, i, e, j, k, l, m, p, q)
 
 pub ruleset laying = (needs, layout-is)
 
--- checks 4 to 6: r is each test's result in turn, and each section adds one that passed
+-- checks 4, 5, 24 and 6: r is each test's result in turn, and each section adds one that passed
 
 pub few-positions : (s p : List ℕ) → p ≡ bodyOf 2 s 1 → Headed s → length p ≤ mostPositions
 unfolding positionsOk
@@ -63,27 +64,39 @@ module _ (s p c h : List ℕ) (a : ℕ) (r₄ : Bool) (e₄ : r₄ ≡ targetsOk
     unfolding check
     refuses-5 x = rw (passed four t₄, failed five x)
 
-    module _ (t₅ : not r₅ ≡ false) (r₆ : Bool) (e₆ : r₆ ≡ allLeave p c u) where
-      six : r₆ ≡ allLeave (bodyOf 2 s 1) (bodyOf 2 s 2) (bodyOf 2 s 3)
-      six = rw (ep, ec, eu) at e₆
-
-      pub refuses-6 : not r₆ ≡ true → refused 6 ≡ linesAnswer s
+    module _ (t₅ : not r₅ ≡ false) (r₂₄ : Bool) (e₂₄ : r₂₄ ≡ gatesOk s) where
+      pub refuses-24 : not r₂₄ ≡ true → refused 24 ≡ linesAnswer s
       unfolding check
-      refuses-6 x = rw (passed four t₄, passed five t₅, failed six x)
+      refuses-24 x = rw (passed four t₄, passed five t₅, failed e₂₄ x)
 
-      module _ (t₆ : not r₆ ≡ false) where
-        pub checked : Headed s → Checked s
-        checked headed = record { headed = headed; targets = passed four t₄; moves = passed five t₅; leave = passed six t₆ }
+      module _ (t₂₄ : not r₂₄ ≡ false) (r₆ : Bool) (e₆ : r₆ ≡ allLeave p c u) where
+        six : r₆ ≡ allLeave (bodyOf 2 s 1) (bodyOf 2 s 2) (bodyOf 2 s 3)
+        six = rw (ep, ec, eu) at e₆
 
-        pub accepts : (l : Layout) → l ≡ layoutOf s → accepted l ≡ linesAnswer s
+        pub refuses-6 : not r₆ ≡ true → refused 6 ≡ linesAnswer s
         unfolding check
-        accepts l e = rw (passed four t₄, passed five t₅, passed six t₆, e)
+        refuses-6 x = rw (passed four t₄, passed five t₅, passed e₂₄ t₂₄, failed six x)
 
-pub ruleset checks-lines = (needs, few-positions, refuses-4, refuses-5, refuses-6, checked, accepts)
+        module _ (t₆ : not r₆ ≡ false) where
+          pub checked : Headed s → Checked s
+          checked headed =
+              record {
+                headed = headed;
+                targets = passed four t₄;
+                moves = passed five t₅;
+                gates = passed e₂₄ t₂₄;
+                leave = passed six t₆;
+              }
 
--- checks 1 to 3, and the chain of six
+pub accepts : (s : List ℕ) (r : Checked s) (l : Layout) → l ≡ layoutOf s → accepted l ≡ linesAnswer s
+unfolding check
+accepts s r l e = rw (r .targets, r .moves, r .gates, r .leave, e)
 
-module _ (s : List ℕ) (r₁ : Bool) (e₁ : r₁ ≡ contentsOk 2 gameLetters s) where
+pub ruleset checks-lines = (needs, few-positions, refuses-4, refuses-5, refuses-24, refuses-6, checked)
+
+-- checks 1 to 3, and the whole chain
+
+module _ (s : List ℕ) (r₁ : Bool) (e₁ : r₁ ≡ contentsOk 2 (lettersOf s) s) where
   pub refuses-1 : not r₁ ≡ true → refused 1 ≡ checkedAnswer s
   unfolding checkedAnswer check
   refuses-1 x = rw (failed e₁ x)
@@ -115,7 +128,7 @@ reads-lines s h e =
 
 pub ruleset reads-any = (needs, refuses-1, refuses-2, refuses-3)
 
--- the seventh
+-- check 7
 
 module _ (s : List ℕ) (a : Reading) (e : readingMeans a ≡ checkedAnswer s) where
   pub stops : (x : Refusal) → a ≡ Refused x → readingMeans a ≡ readAnswer s

@@ -1,12 +1,13 @@
--- What each of the checks 2 to 7 of a game sheet asks ("Reading a yard sheet"). h, p, c and u are the S, P, C and U bodies.
--- Assumes nothing.
+-- What each of the checks 2 to 7 of a game sheet asks ("Reading a yard sheet"), and W-207's. h, p, c and u are the S, P, C and U
+-- bodies. Assumes nothing.
 use Prim.Native.Nat.{ℕ, _+_, _-_, _*_, _/_, _%_}
-use mathlib.Core.Bool.{Bool, cond}
+use mathlib.Core.Bool.{Bool, not, cond}
 use mathlib.Core.List.{List}
 use lib.Dec.{eqb, leb, ltb}
 use lib.ListN.{length, getD}
 use Rattle.theory.specs.Fold.{both, either, allBelow, anyBelow}
 use Rattle.sheet.specs.Limits.{mostPositions, mostActions, mostDelay, mostMoves, mostNodes}
+use Rattle.sheet.specs.Bodies.{isGated, gatesBody}
 use Rattle.sheet.specs.Kinds.{knownAt, controllerAt, environmentAt}
 use Rattle.sheet.specs.Size.{nodesOf}
 
@@ -48,6 +49,10 @@ moveOk p u k =
 unfoldable pub movesOk : List ℕ → List ℕ → Bool
 movesOk p u =
     both (eqb (length u % 2) 0) (both (leb (length u / 2) mostMoves) (allBelow (moveOk p u) (length u / 2)))
+
+-- 24: "a G body that isn't one byte of 0 or 1"
+unfoldable pub gatesOk : List ℕ → Bool
+gatesOk s = either (not (isGated s)) (both (eqb (length (gatesBody s)) 1) (leb (getD (gatesBody s) 0 0) 1))
 
 -- line k, of w bytes, begins with q
 unfoldable pub beginsAt : ℕ → List ℕ → ℕ → ℕ → Bool

@@ -6,14 +6,15 @@ use Rattle.theory.specs.Reach.{reached}
 use Rattle.sheet.specs.Limits.{width}
 use Rattle.sheet.specs.Form.{contentsOk, placedAt}
 use Rattle.sheet.specs.Refusals.{numberOf}
-use Rattle.reader.specs.Checks.{positionsOk, headerOk, targetsOk, movesOk, allLeave, sizeOk}
-use Rattle.sheet.specs.Bodies.{gameLetters, headerBody, positionsBody, targetsBody, movesBody, startOf, actionCount, delayOf}
+use Rattle.reader.specs.Checks.{positionsOk, headerOk, targetsOk, movesOk, gatesOk, allLeave, sizeOk}
+use Rattle.sheet.specs.Bodies.{lettersOf, headerBody, positionsBody, targetsBody, movesBody, isHolding, startOf, actionCount, delayOf}
 use Rattle.sheet.specs.SheetGame.{gameOf}
 use Rattle.reader.specs.declared.reading.Layout.{Layout}
 use Rattle.reader.specs.declared.reading.Reading.{Reading}
 use Rattle.reader.specs.declared.reading.Reading.the-variants.{Accepted, Refused}
 
--- "the start bytes and the places of the bodies", and W-201's "number of positions that lie on some play from the start"
+-- "the start bytes and the places of the bodies", W-201's "number of positions that lie on some play from the start", and whether the
+-- gates hold (W-207)
 unfoldable pub layoutOf : List ℕ → Layout
 layoutOf s =
     record {
@@ -25,19 +26,21 @@ layoutOf s =
       targets = placedAt width s 2;
       moves = placedAt width s 3;
       reached = reached (gameOf s);
+      holding = isHolding s;
     }
 
--- the first six checks, "made in the order written"
+-- the checks of any size of sheet, "made in the order written": document 01's first six, and W-207's, "after 5 and before 6"
 unfoldable pub checkedAnswer : List ℕ → Answer Layout
 checkedAnswer s =
-    check (contentsOk width gameLetters s) 1
+    check (contentsOk width (lettersOf s) s) 1
     (check (positionsOk (positionsBody s)) 2
     (check (headerOk (positionsBody s) (headerBody s)) 3
     (check (targetsOk (positionsBody s) (actionCount s) (targetsBody s)) 4
     (check (movesOk (positionsBody s) (movesBody s)) 5
-    (check (allLeave (positionsBody s) (targetsBody s) (movesBody s)) 6 (accepted (layoutOf s)))))))
+    (check (gatesOk s) 24
+    (check (allLeave (positionsBody s) (targetsBody s) (movesBody s)) 6 (accepted (layoutOf s))))))))
 
--- and the seventh
+-- and check 7
 unfoldable pub readAnswer : List ℕ → Answer Layout
 readAnswer s =
     onAccepted (checkedAnswer s)

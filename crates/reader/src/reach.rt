@@ -1,9 +1,10 @@
 // How many positions lie on some play from the start: a search from it that looks at each position, and so at each line, once.
+use gates::hold::grid_for;
+use gates::kind::is_holding;
 use sheet::form::body;
 use sheet::form::byte;
 use sheet::form::wide;
 use sheet::form::wide16;
-use sheet::grid::grid_of;
 use sheet::grid::target;
 use sheet::limits::INDEX;
 use sheet::limits::ROW;
@@ -96,7 +97,7 @@ fn join_next(
     join_moves(u, first, end, marks, queue, last)
 }
 
-// The number of positions on plays of a sheet that passes checks 1 to 6.
+// The number of positions on plays of a sheet that passes checks 1 to 6 and 24.
 pub(crate) fn reach(s: &[u8]) -> usize
     requires { ⌜ Checked (now s) ⌝ }
     ensures { λ r. ⌜ r ≡ reached (gameOf (now (s .entry))) ⌝ }
@@ -104,7 +105,7 @@ pub(crate) fn reach(s: &[u8]) -> usize
     let h = body(s, 0);
     let u = body(s, 3);
     let actions = wide(byte(h, 1));
-    let grid = grid_of(body(s, 2));
+    let grid = grid_for(body(s, 2), actions, is_holding(s));
     let firsts = first_lines(u);
     let mut marks = [false; ROWS];
     let mut queue = [0u8; ROWS];

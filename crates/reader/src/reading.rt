@@ -1,14 +1,16 @@
-// Reading a game sheet: document 01's refusals 1 to 7, in the order written, and how many positions its plays come to.
+// Reading a game sheet: document 01's refusals 1 to 7 and W-207's 24, in the order written, and how many positions its plays come to.
+use crate::checks::gates_ok;
+use crate::checks::letters_ok;
 use crate::checks::positions_ok;
 use crate::checks::size_ok;
 use crate::lines::all_leave;
 use crate::lines::moves_ok;
 use crate::lines::targets_ok;
 use crate::reach::reach;
+use gates::kind::is_holding;
 use sheet::form::Place;
 use sheet::form::body;
 use sheet::form::byte;
-use sheet::form::contents_ok;
 use sheet::form::part;
 use sheet::form::placed;
 use sheet::form::wide;
@@ -21,7 +23,8 @@ ghost use Rattle.reader.specs.Checks.{headerOk};
 ghost use Rattle.reader.specs.Reading.{layoutOf, checkedAnswer, readAnswer, readingMeans, refusalNumber};
 ghost use Rattle.reader.specs.code.Steps.{linesAnswer, Headed, Checked};
 
-// What an accepted reading carries: the start bytes, the places of the bodies, and how many positions lie on plays.
+// What an accepted reading carries: the start bytes, the places of the bodies, how many positions lie on plays, and whether the
+// gates hold.
 pub struct Layout {
     pub start: u8,
     pub actions: u8,
@@ -31,6 +34,7 @@ pub struct Layout {
     pub targets: Place,
     pub moves: Place,
     pub reached: usize,
+    pub holding: bool,
 }
 
 // The answer to every list of bytes.
@@ -72,7 +76,7 @@ fn header_ok(p: &[u8], h: &[u8]) -> bool
     controller_at(p, wide(h[0]))
 }
 
-// The layout of a sheet that passes checks 1 to 6.
+// The layout of a sheet that passes checks 1 to 6 and 24.
 fn layout_at(s: &[u8]) -> Layout
     requires { ⌜ Checked (now s) ⌝ }
     ensures { λ r. ⌜ r ≡ layoutOf (now (s .entry)) ⌝ }
@@ -86,6 +90,7 @@ fn layout_at(s: &[u8]) -> Layout
     let targets = placed(s, 2);
     let moves = placed(s, 3);
     let reached = reach(s);
+    let holding = is_holding(s);
     Layout {
         start,
         actions,
@@ -95,10 +100,11 @@ fn layout_at(s: &[u8]) -> Layout
         targets,
         moves,
         reached,
+        holding,
     }
 }
 
-// Checks 4 to 6, and acceptance.
+// Checks 4, 5, 24 and 6, and acceptance.
 fn check_lines(s: &[u8]) -> Reading
     requires { ⌜ Headed (now s) ⌝ }
     ensures { λ r. ⌜ readingMeans r ≡ linesAnswer (now (s .entry)) ⌝ }
@@ -112,17 +118,20 @@ fn check_lines(s: &[u8]) -> Reading
     if !moves_ok(p, u) {
         return Reading::Refused(Refusal::Moves);
     }
+    if !gates_ok(s) {
+        return Reading::Refused(Refusal::Gates);
+    }
     if !all_leave(p, c, u) {
         return Reading::Refused(Refusal::Stuck);
     }
     Reading::Accepted(layout_at(s))
 }
 
-// Reading a game sheet of any size: the first six checks in the order written.
+// Reading a game sheet of any size: all checks but 7 in the order written.
 pub fn read_any(sheet: &[u8]) -> Reading
     ensures { λ r. ⌜ readingMeans r ≡ checkedAnswer (now (sheet .entry)) ⌝ }
 {
-    if !contents_ok(sheet, b"SPCU") {
+    if !letters_ok(sheet) {
         return Reading::Refused(Refusal::Contents);
     }
     let p = body(sheet, 1);
@@ -135,7 +144,7 @@ pub fn read_any(sheet: &[u8]) -> Reading
     check_lines(sheet)
 }
 
-// Reading a game sheet: the six checks, and the seventh.
+// Reading a game sheet: those checks, and 7.
 pub fn read(sheet: &[u8]) -> Reading
     ensures { λ r. ⌜ readingMeans r ≡ readAnswer (now (sheet .entry)) ⌝ }
 {

@@ -5,6 +5,10 @@ use Prim.Native.Nat.{ℕ, _^_}
 abbrev pub width : ℕ
 width = 2
 
+-- the first offset of a game sheet with G: "the first offset is 20 or 25"
+abbrev pub gatedContents : ℕ
+gatedContents = 25
+
 -- "positions not 1 to 256"
 abbrev pub mostPositions : ℕ
 mostPositions = 256

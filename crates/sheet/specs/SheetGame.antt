@@ -6,8 +6,9 @@ use lib.Dec.{eqb}
 use lib.ListN.{length, getD}
 use Rattle.theory.specs.Fold.{both}
 use Rattle.theory.specs.Game.{Target, absent, to, Game}
+use Rattle.theory.specs.Holding.{completed}
 use Rattle.sheet.specs.Kinds.{controllerAt, safeAt}
-use Rattle.sheet.specs.Bodies.{positionsBody, targetsBody, movesBody, startOf, actionCount}
+use Rattle.sheet.specs.Bodies.{positionsBody, targetsBody, movesBody, isHolding, startOf, actionCount}
 
 -- line k of the C body is about position q and action x
 unfoldable pub isLine : List ℕ → ℕ → ℕ → ℕ → Bool
@@ -44,6 +45,10 @@ gameBy p start actions target moves =
       moves = moves;
     }
 
--- the game of document 01's "The yard and its play" that a game sheet describes
+-- the game of document 01's "The yard and its play" that the lines of a game sheet describe, as they are written
+abbrev pub writtenGame : List ℕ → Game
+writtenGame s = gameBy (positionsBody s) (startOf s) (actionCount s) (targetOf (targetsBody s)) (movesOf (movesBody s))
+
+-- the game that a game sheet means: where its gates hold "that completed yard", else the written one
 unfoldable pub gameOf : List ℕ → Game
-gameOf s = gameBy (positionsBody s) (startOf s) (actionCount s) (targetOf (targetsBody s)) (movesOf (movesBody s))
+gameOf s = completed (isHolding s) (writtenGame s)

@@ -1,4 +1,8 @@
 // Document 01's numbers for game sheets, and the code's own, named once; specs/Limits.antt and specs/code/ have them too.
+
+// The bytes of the contents of a game sheet with G, and so its first offset.
+pub const GATED_CONTENTS: usize = 25;
+
 pub const MOST_POSITIONS: usize = 256;
 
 pub const MOST_ACTIONS: u8 = 8;

@@ -26,6 +26,7 @@ pub enum Refusal {
     Mismatch,
     TooMany,
     NoSuchPosition,
+    Gates,
 }
 
 impl Refusal {
@@ -57,6 +58,7 @@ impl Refusal {
             Refusal::Mismatch => 21,
             Refusal::TooMany => 22,
             Refusal::NoSuchPosition => 23,
+            Refusal::Gates => 24,
         }
     }
 }

@@ -1,9 +1,11 @@
 -- Every case of specs/cases holds of the definitions, by computation. Assumes nothing.
 use mathlib.Core.Path.{_≡_, refl}
-use mathlib.Core.List.{map}
+use mathlib.Core.Bool.{true, false}
+use mathlib.Core.List.{[], _∷_, map}
 use Rattle.theory.specs.Reach.{reached}
 use Rattle.theory.specs.Judging.{ruling}
 use Rattle.theory.specs.Closing.{post}
+use Rattle.theory.specs.cases.Holding.{heldLines, heldRows, heldAnswers, plainAnswers}
 use Rattle.theory.specs.cases.Notices.{forked, notices}
 use Rattle.theory.specs.cases.Tables.{judgings}
 use Rattle.theory.specs.cases.Games.{targetFrom, movesFrom, gameFrom, resultBy, resultOf, passing, chosen, slow, chained, turned, cases, cut, reachedGames, reachedNumbers}
@@ -24,3 +26,7 @@ judgings-met = refl
 pub notices-met : map (λ n. post (n .game) (n .delay) (n .closed) (n .table)) notices ≡ map (λ n. n .left) notices
 unfolding theory-computes targetFrom movesFrom gameFrom passing forked notices
 notices-met = refl
+
+pub held-met : heldRows true ∷ heldRows false ∷ [] ≡ heldAnswers ∷ plainAnswers ∷ []
+unfolding theory-computes targetFrom heldLines heldRows heldAnswers plainAnswers
+held-met = refl

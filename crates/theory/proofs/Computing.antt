@@ -13,6 +13,7 @@ use Rattle.theory.specs.Table.{ours, flagged, lacks, has, bit, allows}
 use Rattle.theory.specs.Judging.{wordOk, actionOk, nodeOk, ruling}
 use Rattle.theory.specs.Closing.{listed, openIn, close, part, within, post}
 use Rattle.theory.specs.Exact.{leastFlagged, lowestIn, actionAt, arrive, advance, turnBy, playBy, exactChoice, exact, worked}
+use Rattle.theory.specs.Holding.{orElse, held}
 use Rattle.theory.specs.Reach.{isTarget, leads, markIn, marksAfter, reached}
 
 unfoldable pub folds-compute : Bool
@@ -67,6 +68,10 @@ unfoldable pub reach-computes : Bool
 unfolding isTarget leads markIn marksAfter reached
 reach-computes = true
 
+unfoldable pub holding-computes : Bool
+unfolding orElse held
+holding-computes = true
+
 unfoldable pub theory-computes : Bool
-unfolding folds-compute answers-compute buffers-compute bytes-compute words-compute plays-compute rounds-compute delays-compute tables-compute judging-computes closing-computes exact-computes reach-computes
+unfolding folds-compute answers-compute buffers-compute bytes-compute words-compute plays-compute rounds-compute delays-compute tables-compute judging-computes closing-computes exact-computes reach-computes holding-computes
 theory-computes = true

@@ -24,5 +24,6 @@ pub mod NodeStrategy
 pub mod Monotone
 pub mod Exact
 pub mod Reach
+pub mod Holding
 pub mod Computing
 pub mod Cases

@@ -15,4 +15,5 @@ pub mod Judging
 pub mod Closing
 pub mod Exact
 pub mod Reach
+pub mod Holding
 pub mod cases

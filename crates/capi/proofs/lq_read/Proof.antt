@@ -8,5 +8,6 @@ pub lq-read-spec : {M : Type 1} → statement M
 lq-read-spec =
     tie.close
     (tie.spec (λ c κs. search needs) (λ c. search needs) (λ c. search needs) (λ c κs. search needs)
-    (λ c. (search reads, (search reads, (search reads, search reads))))
-    (λ c. (search reads, (search reads, (search reads, search reads)))))
+    (λ c. (search reads, (search reads, (search reads, (search reads, search reads)))))
+    (λ c κs. search needs)
+    (λ c. (search reads, (search reads, (search reads, (search reads, search reads))))))

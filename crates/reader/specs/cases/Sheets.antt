@@ -2,10 +2,11 @@
 -- Not here, for their size, but run by tests/solving.rs (limits_of_size): sheets of 4,096 and 4,097 moves, and of 256 positions with
 -- A 8, which pass 7 at lag 4 and don't at lag 6. Assumes nothing.
 use Prim.Native.Nat.{ℕ, zero, suc, _+_}
+use mathlib.Core.Bool.{Bool, true, false}
 use mathlib.Core.List.{List, [], _∷_, _++_}
 use lib.ListN.{take, set, replicate}
 use Rattle.theory.specs.Answer.{Answer, refused, accepted}
-use Rattle.reader.specs.cases.Yards.{sheetWith, guessTargets, guessMoves, guess, loop}
+use Rattle.reader.specs.cases.Yards.{sheetWith, gatedWith, gatedSplit, guessTargets, guessMoves, guess, loop}
 use Rattle.reader.specs.declared.reading.Layout.{Layout}
 
 pub record Case : Type 0 where
@@ -42,19 +43,31 @@ lines end from (suc n) = from ∷ 0 ∷ end ∷ lines end (suc from) n
 unfoldable pub star : ℕ → ℕ → List ℕ
 star n d = sheetWith (0 ∷ 8 ∷ d ∷ []) (replicate n 0 ++ (2 ∷ [])) (lines n 0 n) (n ∷ 0 ∷ [])
 
--- what a reading of a sheet with these numbers carries: the start bytes, where P, C and U lie, and how many positions lie on plays
-unfoldable pub layout : ℕ → ℕ → ℕ → ℕ → ℕ → ℕ → ℕ → Layout
-layout start actions delay p c u reached =
+-- what a reading of a sheet with these numbers carries: the start bytes, where P, C and U lie, how many positions lie on plays, and
+-- whether the gates hold; the S body begins at a place
+unfoldable pub layoutAt : ℕ → Bool → ℕ → ℕ → ℕ → ℕ → ℕ → ℕ → ℕ → Layout
+layoutAt at holding start actions delay p c u reached =
     record {
       start = start;
       actions = actions;
       delay = delay;
-      header = record { at = 20; size = 3 };
-      positions = record { at = 23; size = p };
-      targets = record { at = 23 + p; size = c };
-      moves = record { at = 23 + p + c; size = u };
+      header = record { at = at; size = 3 };
+      positions = record { at = at + 3; size = p };
+      targets = record { at = at + 3 + p; size = c };
+      moves = record { at = at + 3 + p + c; size = u };
       reached = reached;
+      holding = holding;
     }
+
+unfoldable pub layout : ℕ → ℕ → ℕ → ℕ → ℕ → ℕ → ℕ → Layout
+layout = layoutAt 20 false
+
+-- the split gate's sheet with holding gates, and with faults in U, G and P's moves
+unfoldable pub heldBytes : List ℕ
+heldBytes = gatedSplit (1 ∷ []) 1
+
+unfoldable pub gatedFaults : List ℕ → List ℕ → List ℕ → List ℕ
+gatedFaults c u g = gatedWith (0 ∷ 2 ∷ 1 ∷ []) (0 ∷ 0 ∷ 2 ∷ []) c u g
 
 unfoldable pub right : List ℕ → Layout → Case
 right s l = record { sheet = s; answer = accepted l }
@@ -114,6 +127,25 @@ cases =
     -- 7: A 8, lag 6: 32 positions pass and 33 don't
     ∷ right (star 31 6) (layout 0 8 6 32 93 2 2)
     ∷ wrong 7 (star 32 6)
+    -- W-207: G of 1 and of 0; for 24 another byte, two bytes and none
+    ∷ right heldBytes (layoutAt 25 true 0 2 1 3 6 4 3)
+    ∷ right (gatedSplit (0 ∷ []) 1) (layoutAt 25 false 0 2 1 3 6 4 3)
+    ∷ wrong 24 (gatedSplit (2 ∷ []) 1)
+    ∷ wrong 24 (gatedSplit (1 ∷ 1 ∷ []) 1)
+    ∷ wrong 24 (gatedSplit [] 1)
+    -- the first offset says which kind: no letter G, no room for it, an entry too many, and none between 20 and 25
+    ∷ wrong 1 (set heldBytes 20 72)
+    ∷ wrong 1 (take 24 heldBytes)
+    ∷ wrong 1 (set heldBytes 1 20)
+    ∷ wrong 1 (set guessBytes 1 25)
+    ∷ wrong 1 (set heldBytes 1 21)
+    ∷ wrong 1 (set heldBytes 1 24)
+    ∷ wrong 1 (set heldBytes 1 26)
+    -- 5 and 24, 24 and 6, 24 and 7, 4 and 24
+    ∷ wrong 5 (gatedFaults (0 ∷ 0 ∷ 2 ∷ 1 ∷ 1 ∷ 2 ∷ []) (2 ∷ 1 ∷ 2 ∷ 0 ∷ []) (2 ∷ []))
+    ∷ wrong 24 (gatedFaults (0 ∷ 0 ∷ 2 ∷ []) (2 ∷ 0 ∷ 2 ∷ 1 ∷ []) (2 ∷ []))
+    ∷ wrong 24 (gatedWith (0 ∷ 8 ∷ 6 ∷ []) (replicate 32 0 ++ (2 ∷ [])) (lines 32 0 32) (32 ∷ 0 ∷ []) (2 ∷ []))
+    ∷ wrong 4 (gatedFaults (0 ∷ 2 ∷ 2 ∷ []) (2 ∷ 0 ∷ 2 ∷ 1 ∷ []) (2 ∷ []))
     -- two reasons: the first counts. 1 and 2, 2 and 3, 3 and 4, 4 and 5, 5 and 6, 6 and 7
     ∷ wrong 1 (guessP (0 ∷ 0 ∷ 2 ∷ 4 ∷ []) ++ (0 ∷ []))
     ∷ wrong 2 (sheetWith (0 ∷ 9 ∷ 1 ∷ []) (0 ∷ 0 ∷ 2 ∷ 4 ∷ []) [] [])

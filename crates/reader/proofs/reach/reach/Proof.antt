@@ -18,7 +18,7 @@ loop-holds : tie.Need-loop-holds Inv-loop μ-loop
 loop-holds c =
     let joined = c .before .before in
     let arrays = joined .before .before .before .before .before in
-    let header = arrays .before .before .before .before .before .before in
+    let header = arrays .before .before .before .before .before .before .before in
     reach-start _ (header .before .before .pre) (header .body .ensures) (joined .before .before .byte2 .ensures)
     (joined .before .wide2 .ensures .0) (joined .join .ensures)
 
@@ -35,24 +35,26 @@ loop-again c =
     let turn = read .before .before in
     let joined = turn .before .before .before in
     let arrays = joined .before .before .before .before .before in
-    let header = arrays .before .before .before .before .before .before in
-    reach-next _ (header .before .before .pre) _ _ (arrays .before .before .body3 .ensures)
-    (arrays .before .before .before .before .before .body2 .ensures) (arrays .before .grid-of .ensures) (arrays .first-lines .ensures) (header .body .ensures)
-    (arrays .before .before .before .before .byte .ensures) (arrays .before .before .before .wide .ensures .0) (turn .loop .inv)
+    let header = arrays .before .before .before .before .before .before .before in
+    reach-next _ (header .before .before .pre) _ _ (arrays .before .before .before .body3 .ensures)
+    (arrays .before .before .before .before .before .before .body2 .ensures) (arrays .before .before .is-holding .ensures)
+    (arrays .before .grid-for .ensures) (arrays .first-lines .ensures) (header .body .ensures)
+    (arrays .before .before .before .before .before .byte .ensures) (arrays .before .before .before .before .wide .ensures .0) (turn .loop .inv)
     (read .before .loop-test .taken) (read .wide3 .ensures .0) (called .join-next .ensures)
 
 returns : tie.Need-returns Inv-loop μ-loop
 returns c =
     let joined = c .before .before .before .before in
     let arrays = joined .before .before .before .before .before in
-    let header = arrays .before .before .before .before .before .before in
+    let header = arrays .before .before .before .before .before .before .before in
     reach-done _ (header .before .before .pre) _ (c .before .loop .inv) (c .loop-test .left)
 
 pub reach-spec : {M : Type 1} → statement M
 reach-spec =
     tie.close
     (tie.spec Inv-loop μ-loop (λ c κs. search reaching) (λ c κs. search reaching) (λ c κs. search reaching) (λ c κs. search reaching)
-    (λ c κs. search reaching) (λ c κs. search reaching) (λ c κs. search reaching) (λ c. search reaching) (λ c. search reaching)
+    (λ c κs. search reaching) (λ c κs. search reaching) (λ c κs. search reaching) (λ c κs. search reaching) (λ c. search reaching)
+    (λ c. search reaching)
     (λ c κs. search reaching) (λ c κs. search reaching) (λ c κs. search reaching) loop-holds (λ c. search reaching)
     (λ c κs. search reaching) (λ c. search reaching) (λ c. search reaching) (λ c κs. search reaching) (λ c. search reaching) loop-less
     loop-again returns)

@@ -8,4 +8,4 @@ layout-at-spec =
     tie.close
     (tie.spec (λ c κs. search laying) (λ c κs. search laying) (λ c κs. search laying) (λ c κs. search laying)
     (λ c κs. search laying) (λ c κs. search laying) (λ c κs. search laying) (λ c κs. search laying)
-    (λ c κs. search laying) (λ c. search laying))
+    (λ c κs. search laying) (λ c κs. search laying) (λ c. search laying))

@@ -1,0 +1,2 @@
+-- What the grid of targets holds where gates hold.
+pub mod code
