@@ -5,12 +5,14 @@
  * is total: any bytes and any lengths get a result or a refusal. It answers 0 where it accepts, and else the refusal's number:
  *
  *   reading a yard sheet
- *    1  under 20 bytes, letters not S P C U, first offset not 20, a body not beginning where the last ended, or the last not ending with
- *       the sheet
+ *    1  under 20 bytes; first offset neither 20 nor 25; with 20 letters not S P C U; with 25 under 25 bytes or letters not S P C U G; a
+ *       body not beginning where the last ended, or the last not ending with the sheet
  *    2  positions not 1 to 256, or a P byte over 3
  *    3  S not 3 bytes, commands not 1 to 8, lag over 6, start absent or not own
  *    4  C not in threes, not rising by from and then command, from not own, command not below the number of commands, or to not yard
  *    5  U not in twos, over 4,096 moves, not rising by from and then to, from not yard, or to not own
+ *   24  a G body that isn't one byte of 0 or 1; it is tested here, after 5 and before 6, wherever those are: "1 to 7" and "1 to 8" below
+ *       have it in this place
  *    6  a position without a move
  *    7  more than LQ_MOST_PAIRS pairs
  *   solving and making
@@ -45,6 +47,13 @@
  * commands, so there are commands ^ ((d + 1) / 2) first words. At turn i the window is the indices from 2 * i - d (never below 0) to
  * 2 * i, and the needed report is that of index 2 * i - d, from the first turn on at which 2 * i is not below d; no report is needed
  * before.
+ *
+ * Gates. A yard sheet whose first offset is 25 has a fifth entry, G, with one byte. 0 says nothing: the sheet means what it would without
+ * G. 1 says that the yard has holding gates, which do command 0 where they don't permit the command that arrives. Such a sheet means the
+ * completed yard: at every own position that has a line for command 0, each command below their number that has no line there is permitted
+ * and leads where command 0 does; a position without a line for command 0 stays as it is. All that is said below of a yard, of the
+ * commands it permits and of its plays is said of the completed one. Checks 4 and 6 look at the lines as they are written. Tables and
+ * cabins know nothing of gates: a table sheet is the same for a holding yard as for the completed one written out as lines.
  *
  * Memory. The library has no static data and needs no initialisation: a function reads and writes only what is lent to it and its stack.
  * So it is reentrant, and threads may call at the same time if none writes to what another was lent. (One sheet may be lent to all, a
@@ -89,9 +98,9 @@ extern "C" {
  * Reads a yard sheet: refusals 1 to 7. Accepted: header holds start, number of commands and lag. places holds the offset and the length
  * of each body in the sheet: S at 0 and 1, P at 2 and 3, C at 4 and 5, U at 6 and 7. *reached is the number of positions that lie on some
  * play from the start, the start included, safe or not and whichever commands are played: under the number of positions where part of the
- * yard is cut off. A refusal leaves it.
+ * yard is cut off. *holding is 1 where the yard has holding gates, and 0 where G is 0 or there is none. A refusal leaves all four.
  */
-uint8_t lq_read(const uint8_t *sheet, size_t sheet_len, uint8_t header[3], size_t places[8], size_t *reached);
+uint8_t lq_read(const uint8_t *sheet, size_t sheet_len, uint8_t header[3], size_t places[8], size_t *reached, uint8_t *holding);
 
 /*
  * Solves a yard sheet: refusals 1 to 7, then 8. Accepted: *losing is LQ_WINS, and both buffers hold the entries for the asked lag, one for

@@ -38,11 +38,12 @@ pub fn bodies<'a, const N: usize>(sheet: &'a [u8], letters: &[u8; N]) -> Option<
     Some((bodies, at))
 }
 
-/// A sheet that passes checks 1 to 7.
+/// A sheet that passes checks 1 to 7, and 24.
 pub struct Reading<'a> {
     bodies: [&'a [u8]; 4],
     lines: Lines,
     pub reached: usize,
+    pub holding: bool,
 }
 
 fn add_lines(lines: &mut Lines, body: &[u8], width: usize) {
@@ -83,8 +84,11 @@ fn reached([s, p, c, u]: [&[u8]; 4], lines: &Lines) -> usize {
 }
 
 pub fn read(sheet: &[u8]) -> Option<Reading<'_>> {
-    let (bodies, at) = bodies(sheet, b"SPCU")?;
-    let [s, p, c, u] = bodies;
+    let ([s, p, c, u, gates], at) = match sheet.get(1..3)? {
+        [20, 0] => bodies(sheet, b"SPCU").map(|([s, p, c, u], at)| ([s, p, c, u, &[0]], at))?,
+        _ => bodies(sheet, b"SPCUG")?,
+    };
+    let bodies = [s, p, c, u];
     let own = |q: u8| p.get(q as usize).is_some_and(|&kind| kind < 2);
     let other = |q: u8| p.get(q as usize).is_some_and(|&kind| kind >= 2);
     let rising = |b: &[u8], width: usize| {
@@ -109,17 +113,24 @@ pub fn read(sheet: &[u8]) -> Option<Reading<'_>> {
         && u.chunks(2).all(|line| other(line[0]) && own(line[1]))
         && rising(u, 2)
         && lines[..p.len()].iter().all(|&(_, end)| end != 0)
+        && gates.len() == 1
+        && gates[0] <= 1
         && p.len() * (s[1] as usize).pow(s[2] as u32 / 2) <= 16_384;
-    right.then(|| Reading { bodies, lines, reached: reached(bodies, &lines) })
+    right.then(|| Reading { bodies, lines, reached: reached(bodies, &lines), holding: gates[0] == 1 })
 }
 
 impl Hand {
     /// From a sheet that is accepted.
     pub fn new(sheet: &[u8]) -> Hand {
-        let Reading { bodies: [s, p, c, u], lines, reached } = read(sheet).unwrap();
+        let Reading { bodies: [s, p, c, u], lines, reached, holding } = read(sheet).unwrap();
         let mut grid = vec![[ABSENT; 8]; p.len()];
         for line in c.chunks(3) {
             grid[line[0] as usize][line[1] as usize] = line[2] as u16;
+        }
+        // a missing command is done by command 0
+        for row in grid.iter_mut().filter(|row| holding && row[0] != ABSENT) {
+            let held = row[0];
+            row[1..s[1] as usize].iter_mut().filter(|target| **target == ABSENT).for_each(|target| *target = held);
         }
         Hand {
             positions: p.len(),

@@ -147,6 +147,13 @@ fn dense() -> Yard {
     around(128, 8, 32, 4)
 }
 
+/// The dense yard without lines for its odd commands.
+fn even_commands() -> Yard {
+    let mut yard = dense();
+    yard.targets.retain(|line| line[1] % 2 == 0);
+    yard
+}
+
 /// So many own positions and as many of the yard's, in turn: the commands lead to so many of the next ones, and each yard position moves
 /// to so many.
 fn around(own_positions: usize, targets: usize, moves: usize, delay: u8) -> Yard {
@@ -156,7 +163,7 @@ fn around(own_positions: usize, targets: usize, moves: usize, delay: u8) -> Yard
     let mut to: Vec<_> = (0..own_positions).flat_map(|k| (1..=moves).map(move |on| [other(k), own(k + on)])).collect();
     to.sort_unstable();
     let targets = (0..own_positions).flat_map(lines).collect();
-    Yard { start: 0, actions: 8, delay, kinds: [0, 2].repeat(own_positions), targets, moves: to }
+    Yard { start: 0, actions: 8, delay, kinds: [0, 2].repeat(own_positions), targets, moves: to, gates: None }
 }
 
 /// The first sixteen yards.
@@ -236,7 +243,8 @@ fn standing_yards() -> impl Iterator<Item = (String, Yard)> {
 /// A reading is too short to be timed alone, so many are timed together.
 fn measure_reading(name: &str, yard: &Yard) {
     let sheet = yard.sheet();
-    let reached = naive::read(&sheet).unwrap().reached;
+    let naive::Read { reached, holding, .. } = naive::read(&sheet).unwrap();
+    assert_eq!((proved::read(&sheet).unwrap().holding, hand::read(&sheet).unwrap().holding), (holding, holding));
     let readings = 200;
     let [by_proof, by_hand] = compare(
         30,
@@ -272,6 +280,27 @@ fn readings() {
     measure_reading("chain of 128 links", &chain(128));
     measure_reading("chain of 128 links, numbered down", &chain(128).turned());
     measure_reading("the guess yard", &sheets::guess());
+    measure_reading("dense, odd commands missing", &even_commands());
+    measure_reading("dense, odd commands missing, holding gates", &even_commands().holding());
+    measure_reading("the split gate, holding gates", &sheets::split_gate().holding());
+    println!();
+}
+
+/// Yards with holding gates, each beside the completed one whose lines are written out: what completing takes.
+fn holding_yards() {
+    println!("| yard with holding gates | pairs | rounds | proved | by hand | proved / by hand | bits | proved / bits | naive |");
+    println!("|---|---|---|---|---|---|---|---|---|");
+    let mut random = Random::new(207);
+    let shape = Shape { own: 128, environment: 128, actions: 8, permitted: 50, moves: 4, unsafe_positions: 0 };
+    let sparse = random_yard(&mut random, &shape);
+    for (name, yard) in [
+        ("dense, odd commands missing, lag 4, 32 moves each", even_commands()),
+        ("random, half of the commands missing, lag 0, 4 moves at most", sparse.clone()),
+        ("random, half of the commands missing, lag 4, 4 moves at most", sparse.at(4)),
+    ] {
+        measure(name, &yard.holding());
+        measure(&format!("{name}: written out"), &yard.completed());
+    }
     println!();
 }
 
@@ -595,6 +624,7 @@ fn main() {
     yards();
     worst_yards();
     readings();
+    holding_yards();
     judgings();
     postings();
     long_postings();

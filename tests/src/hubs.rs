@@ -54,7 +54,7 @@ impl Hub {
         kinds[usize::from(self.place)] = u8::from(flaw == Some(Flaw::Unsafe));
         let targets = permitted.map(|(p, c)| [p, c, to(p, c)]).collect();
         let moves = (0..self.doors).map(|door| [hub, door]).chain([[haven, start], [passage, end]]).collect();
-        let yard = Yard { start, actions: self.actions, delay: 0, kinds, targets, moves };
+        let yard = Yard { start, actions: self.actions, delay: 0, kinds, targets, moves, gates: None };
         if self.turned { yard.turned() } else { yard }
     }
 
@@ -76,7 +76,8 @@ pub const LINES: [&str; 4] = ["the only line", "the first line", "a middle line"
 pub fn wide_gate(own: u8, other: Option<u8>) -> Yard {
     let targets = (0..own).map(|p| [p, u8::from(other == Some(p)), own]).collect();
     let moves = (0..own).map(|p| [own, p]).collect();
-    Yard { start: 0, actions: 2, delay: 0, kinds: [vec![0; usize::from(own)], vec![2]].concat(), targets, moves }
+    let kinds = [vec![0; usize::from(own)], vec![2]].concat();
+    Yard { start: 0, actions: 2, delay: 0, kinds, targets, moves, gates: None }
 }
 
 /// A hub for each command, with as many lines as there are commands. One door is unsafe: hub c has it at place c of its lines, and where
@@ -91,5 +92,5 @@ pub fn windows(actions: u8, mended: Option<u8>) -> Yard {
     let targets = commands.map(|(p, c)| [p, c, if p == start { first_hub + c } else { haven }]).collect();
     let mut kinds = [vec![0; usize::from(first_hub)], vec![2; usize::from(actions) + 1]].concat();
     kinds[usize::from(lost)] = 1;
-    Yard { start, actions, delay: 0, kinds, targets, moves }
+    Yard { start, actions, delay: 0, kinds, targets, moves, gates: None }
 }

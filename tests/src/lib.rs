@@ -1,5 +1,6 @@
 //! What the tests share: the proved library as Rust functions, yard sheets, tables, notices and packets to feed it, and a naive solver, cabin,
 //! judge and posting to compare it with.
+pub mod both;
 pub mod cabin;
 pub mod counts;
 pub mod hubs;

@@ -1,5 +1,5 @@
-//! Reading and solving from document 01's words alone, with explicit sets of pairs and words as lists of commands. Slow on purpose:
-//! nothing here is shared with the Rattle code or its definitions.
+//! Reading and solving from document 01's words and, for gates that hold, document 02's (W-207), with explicit sets of pairs and words as
+//! lists of commands. Slow on purpose: nothing here is shared with the Rattle code or its definitions.
 use std::collections::{BTreeMap, BTreeSet, HashMap};
 
 #[derive(Clone, Debug, PartialEq, Eq)]
@@ -11,6 +11,8 @@ pub struct Read {
     pub places: [(usize, usize); 4],
     /// How many positions lie on some play from the start.
     pub reached: usize,
+    /// G is there and has holding gates.
+    pub holding: bool,
 }
 
 /// Entries of a table of contents that is right, or none: refusals 1 and 10.
@@ -45,9 +47,33 @@ pub fn reached(start: u8, lines: &[(u8, u8)]) -> BTreeSet<u8> {
     }
 }
 
-/// "Reading a yard sheet", check by check in the order written.
+/// "the first offset is 20 or 25 and says which kind it is": the letters of its contents.
+fn letters(sheet: &[u8]) -> Option<&'static [u8]> {
+    match sheet.get(1..3)? {
+        [20, 0] => Some(b"SPCU"),
+        [25, 0] => Some(b"SPCUG"),
+        _ => None,
+    }
+}
+
+/// Targets by position and command.
+type Targets = HashMap<(u8, u8), u8>;
+
+/// The targets that the lines of C mean. In a holding yard "every own position with a move for command 0 uses that target for each missing
+/// command".
+fn targets(c: &[u8], actions: u8, holding: bool) -> Targets {
+    let lines: Targets = c.chunks(3).map(|l| ((l[0], l[1]), l[2])).collect();
+    let mut all = lines.clone();
+    for (&(p, _), &q) in lines.iter().filter(|((_, c), _)| holding && *c == 0) {
+        let missing = (0..actions).filter(|&c| !lines.contains_key(&(p, c)));
+        all.extend(missing.map(|c| ((p, c), q)));
+    }
+    all
+}
+
+/// "Reading a yard sheet", check by check in the order written, 24 being "after 5 and before 6".
 pub fn read(sheet: &[u8]) -> Result<Read, u8> {
-    let places = contents(sheet, b"SPCU").ok_or(1)?;
+    let places = letters(sheet).and_then(|letters| contents(sheet, letters)).ok_or(1)?;
     let body = |k: usize| &sheet[places[k].0..places[k].0 + places[k].1];
     let (s, p, c, u) = (body(0), body(1), body(2), body(3));
     if p.is_empty() || p.len() > 256 || p.iter().any(|&kind| kind > 3) {
@@ -74,6 +100,11 @@ pub fn read(sheet: &[u8]) -> Result<Read, u8> {
     {
         return Err(5);
     }
+    let gates = (places.len() > 4).then(|| body(4));
+    if gates.is_some_and(|g| g.len() != 1 || g[0] > 1) {
+        return Err(24);
+    }
+    let holding = gates == Some(&[1]);
     let moving: BTreeSet<u8> = c.chunks(3).map(|l| l[0]).chain(u.chunks(2).map(|l| l[0])).collect();
     if (0..p.len()).any(|q| !moving.contains(&(q as u8))) {
         return Err(6);
@@ -82,8 +113,9 @@ pub fn read(sheet: &[u8]) -> Result<Read, u8> {
         return Err(7);
     }
     let places = [places[0], places[1], places[2], places[3]];
-    let steps: Vec<(u8, u8)> = c.chunks(3).map(|l| (l[0], l[2])).chain(lines(u, 2)).collect();
-    Ok(Read { start, actions, delay, places, reached: reached(start, &steps).len() })
+    let steps = targets(c, actions, holding).into_iter().map(|((p, _), q)| (p, q));
+    let steps: Vec<(u8, u8)> = steps.chain(lines(u, 2)).collect();
+    Ok(Read { start, actions, delay, places, reached: reached(start, &steps).len(), holding })
 }
 
 pub type Word = Vec<u8>;
@@ -94,7 +126,7 @@ pub struct Game {
     pub start: u8,
     pub actions: u8,
     kinds: Vec<u8>,
-    targets: HashMap<(u8, u8), u8>,
+    targets: Targets,
     moves: BTreeMap<u8, Vec<u8>>,
 }
 
@@ -145,7 +177,7 @@ impl Game {
             start: read.start,
             actions: read.actions,
             kinds: body(1).to_vec(),
-            targets: body(2).chunks(3).map(|l| ((l[0], l[1]), l[2])).collect(),
+            targets: targets(body(2), read.actions, read.holding),
             moves,
         }
     }

@@ -13,7 +13,14 @@ struct Heard {
 }
 
 extern "C" {
-    fn lq_read(sheet: *const u8, sheet_len: usize, header: *mut u8, places: *mut usize, reached: *mut usize) -> u8;
+    fn lq_read(
+        sheet: *const u8,
+        sheet_len: usize,
+        header: *mut u8,
+        places: *mut usize,
+        reached: *mut usize,
+        holding: *mut u8,
+    ) -> u8;
     fn lq_solve(
         sheet: *const u8,
         sheet_len: usize,
@@ -80,20 +87,24 @@ pub const WINS: u8 = 255;
 pub fn read(sheet: &[u8]) -> Result<Read, u8> {
     let mut header = [0xa5u8; 3];
     let mut places = [0x5a5ausize; 8];
-    let mut reached = 0x5a5a;
-    let number =
-        unsafe { lq_read(sheet.as_ptr(), sheet.len(), header.as_mut_ptr(), places.as_mut_ptr(), &mut reached) };
+    let (mut reached, mut holding) = (0x5a5a, 0x5a);
+    let number = unsafe {
+        let (header, places) = (header.as_mut_ptr(), places.as_mut_ptr());
+        lq_read(sheet.as_ptr(), sheet.len(), header, places, &mut reached, &mut holding)
+    };
     if number != 0 {
-        let after = (header, places, reached);
-        assert_eq!(after, ([0xa5; 3], [0x5a5a; 8], 0x5a5a), "a refused reading altered what was lent");
+        let after = (header, places, reached, holding);
+        assert_eq!(after, ([0xa5; 3], [0x5a5a; 8], 0x5a5a, 0x5a), "a refused reading altered what was lent");
         return Err(number);
     }
+    assert!(holding <= 1, "holding {holding}");
     Ok(Read {
         start: header[0],
         actions: header[1],
         delay: header[2],
         places: [0, 1, 2, 3].map(|k| (places[2 * k], places[2 * k + 1])),
         reached,
+        holding: holding == 1,
     })
 }
 

@@ -1,4 +1,4 @@
-//! Yards as data and as the bytes of a sheet: document 01, "Sheets".
+//! Yards as data and as the bytes of a sheet: document 01, "Sheets", and document 02, W-207.
 use crate::random::Random;
 
 #[derive(Clone, Debug)]
@@ -12,6 +12,8 @@ pub struct Yard {
     pub targets: Vec<[u8; 3]>,
     /// From, to; rising.
     pub moves: Vec<[u8; 2]>,
+    /// The G body, where the sheet has one: document 02, W-207.
+    pub gates: Option<Vec<u8>>,
 }
 
 /// House form: the contents, then the bodies back to back.
@@ -31,14 +33,44 @@ pub fn house(parts: &[(u8, &[u8])]) -> Vec<u8> {
     sheet
 }
 
+/// The letters of a yard sheet, the last of which may be missing.
+pub const LETTERS: [u8; 5] = *b"SPCUG";
+
+/// The bodies of a yard sheet with their letters.
+pub fn parts(bodies: &[Vec<u8>]) -> Vec<(u8, &[u8])> {
+    LETTERS.iter().zip(bodies).map(|(&letter, body)| (letter, &body[..])).collect()
+}
+
 impl Yard {
+    /// The bodies S, P, C, U and, where there is one, G.
+    pub fn bodies(&self) -> Vec<Vec<u8>> {
+        let header = vec![self.start, self.actions, self.delay];
+        let mut bodies = vec![header, self.kinds.clone(), self.targets.concat(), self.moves.concat()];
+        bodies.extend(self.gates.clone());
+        bodies
+    }
+
     pub fn sheet(&self) -> Vec<u8> {
-        house(&[
-            (b'S', &[self.start, self.actions, self.delay]),
-            (b'P', &self.kinds),
-            (b'C', &self.targets.concat()),
-            (b'U', &self.moves.concat()),
-        ])
+        house(&parts(&self.bodies()))
+    }
+
+    /// With this G body.
+    pub fn gated(&self, body: &[u8]) -> Yard {
+        Yard { gates: Some(body.to_vec()), ..self.clone() }
+    }
+
+    /// The same lines with holding gates.
+    pub fn holding(&self) -> Yard {
+        self.gated(&[1])
+    }
+
+    /// The completed yard written out as lines, without G: at each position a command that has no line gets the target of command 0, where
+    /// that has one.
+    pub fn completed(&self) -> Yard {
+        let target = |p: u8, c: u8| self.targets.iter().find(|line| line[..2] == [p, c]).map(|line| line[2]);
+        let commands = (0..self.kinds.len()).flat_map(|p| (0..self.actions).map(move |c| (p as u8, c)));
+        let targets = commands.filter_map(|(p, c)| Some([p, c, target(p, c).or(target(p, 0))?])).collect();
+        Yard { targets, gates: None, ..self.clone() }
     }
 
     pub fn at(&self, delay: u8) -> Yard {
@@ -84,12 +116,12 @@ impl Yard {
         targets.sort_unstable();
         moves.sort_unstable();
         let kinds = self.kinds.iter().rev().copied().collect();
-        Yard { start: number(self.start), kinds, targets, moves, ..*self }
+        Yard { start: number(self.start), kinds, targets, moves, gates: self.gates.clone(), ..*self }
     }
 }
 
 fn yard(actions: u8, kinds: &[u8], targets: &[[u8; 3]], moves: &[[u8; 2]]) -> Yard {
-    Yard { start: 0, actions, delay: 0, kinds: kinds.to_vec(), targets: targets.to_vec(), moves: moves.to_vec() }
+    Yard { start: 0, actions, delay: 0, kinds: kinds.to_vec(), targets: targets.to_vec(), moves: moves.to_vec(), gates: None }
 }
 
 pub fn guess() -> Yard {
@@ -150,7 +182,7 @@ pub fn chain(links: usize) -> Yard {
     let kinds = (0..links).flat_map(|k| [u8::from(k + 1 == links), 2]).collect();
     let targets = (0..links).flat_map(|k| [[own(k), 0, other(k)], [own(k), 1, other(k)]]).collect();
     let moves = (0..links).map(|k| [other(k), own((k + 1) % links)]).collect();
-    Yard { start: 0, actions: 2, delay: 0, kinds, targets, moves }
+    Yard { start: 0, actions: 2, delay: 0, kinds, targets, moves, gates: None }
 }
 
 /// What a random yard is drawn from.
@@ -206,7 +238,7 @@ pub fn random_yard(random: &mut Random, shape: &Shape) -> Yard {
         to.dedup();
         moves.extend(to.into_iter().map(|t| [p, t]));
     }
-    Yard { start: *random.pick(&own), actions: shape.actions, delay: 0, kinds, targets, moves }
+    Yard { start: *random.pick(&own), actions: shape.actions, delay: 0, kinds, targets, moves, gates: None }
 }
 
 /// Damage of one kind to a sheet.

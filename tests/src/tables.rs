@@ -1,13 +1,34 @@
 //! Tables for yards: ours, others made from them, and random ones; and sheets with faults.
 use crate::cabin::{self, Table};
-use crate::proved;
+use crate::naive::{self, Game, Rule, Verdict};
+use crate::proved::{self, Answer};
 use crate::random::Random;
-use crate::sheets::{random_yard, Shape, Yard};
+use crate::sheets::{house, random_yard, Shape, Yard};
 
 /// Our table, where the yard wins at its lag.
 pub fn ours(yard: &Yard) -> Option<Table> {
     let (sheet, answer) = proved::make_of(yard, yard.owed_length()).unwrap();
     answer.losing.is_none().then(|| cabin::read(&sheet).unwrap())
+}
+
+/// The sheet that making must write, or nothing where the yard's sheet is refused: document 01, "Sheets".
+pub fn naive_sheet(sheet: &[u8]) -> Option<(Vec<u8>, Answer)> {
+    let read = naive::read(sheet).ok()?;
+    let answer = |losing: Option<u8>| Answer { losing, reached: read.reached };
+    let game = Game::of(sheet, &read);
+    let highest = (game.positions() - 1) as u8;
+    Some(match game.solve(read.delay, Rule::Document) {
+        Verdict::Winning(level) => {
+            let flags: Vec<u8> = level.good.iter().map(|&good| u8::from(good)).collect();
+            let header = [read.start, read.actions, read.delay, highest];
+            (house(&[(b'S', &header), (b'W', &flags), (b'T', &level.masks)]), answer(None))
+        }
+        Verdict::Losing(m, level) => {
+            let ranks: Vec<u8> = level.ranks.iter().flat_map(|rank| rank.to_le_bytes()).collect();
+            let header = [read.start, read.actions, m, highest];
+            (house(&[(b'S', &header), (b'R', &ranks)]), answer(Some(m)))
+        }
+    })
 }
 
 /// A small random yard that wins, and our table.
@@ -140,6 +161,9 @@ pub fn faulty_sheet(yard: &Yard, faults: &[u8]) -> Vec<u8> {
     if has(7) {
         yard.delay = 6;
     }
+    if has(24) {
+        yard.gates = Some(vec![2]);
+    }
     let mut sheet = yard.sheet();
     sheet.extend(has(1).then_some(0));
     sheet
@@ -155,7 +179,8 @@ pub fn faulty_table(table: &Table, other_start: u8, faults: &[u8]) -> Vec<u8> {
 
 /// A table without a mask, every first word flagged: readable, and judged with a bad word where its numbers are the yard's.
 pub fn without_masks([start, actions, delay, highest]: [u8; 4]) -> Vec<u8> {
-    let yard = Yard { start, actions, delay, kinds: vec![0; highest as usize + 1], targets: Vec::new(), moves: Vec::new() };
+    let kinds = vec![0; highest as usize + 1];
+    let yard = Yard { start, actions, delay, kinds, targets: Vec::new(), moves: Vec::new(), gates: None };
     let words = vec![1; (actions as usize).pow((delay as u32 + 1) / 2)];
     table_of(&yard, words, vec![0; yard.pairs()]).sheet()
 }

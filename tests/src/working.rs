@@ -41,7 +41,7 @@ pub fn safe_play(
 }
 
 /// The exact play, by the sheet and the rule alone.
-fn exact_play(game: &Game, table: &Table, seed: u64, turns: usize) -> (Vec<u8>, Vec<u8>) {
+pub fn exact_play(game: &Game, table: &Table, seed: u64, turns: usize) -> (Vec<u8>, Vec<u8>) {
     safe_play(game, seed, turns, |i, play, given| table.command(i, |index| play.get(index).copied(), given).unwrap())
 }
 

@@ -51,7 +51,7 @@ impl Plan {
         self.targets.sort_unstable();
         self.moves.sort_unstable();
         self.moves.dedup();
-        Yard { start, actions: self.actions, delay, kinds: self.kinds, targets: self.targets, moves: self.moves }
+        Yard { start, actions: self.actions, delay, kinds: self.kinds, targets: self.targets, moves: self.moves, gates: None }
     }
 }
 

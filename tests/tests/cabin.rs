@@ -2,31 +2,11 @@
 //! of lists of calls with late, overtaking, repeated, lost and (outside the window) false reports, one at a time and in packets.
 use loquatquoits_tests::cabin::{self, Bytes};
 use loquatquoits_tests::counts::{count, report, Counts};
-use loquatquoits_tests::naive::{self, Game, Rule, Verdict};
 use loquatquoits_tests::proved::{self, Answer};
 use loquatquoits_tests::random::Random;
-use loquatquoits_tests::sheets::{self, house, random_yard, Shape, Yard};
+use loquatquoits_tests::sheets::{self, random_yard, Shape, Yard};
+use loquatquoits_tests::tables::naive_sheet;
 use loquatquoits_tests::working;
-
-/// The sheet that making must write, or nothing where the yard's sheet is refused: document 01, "Sheets".
-fn naive_sheet(sheet: &[u8]) -> Option<(Vec<u8>, Answer)> {
-    let read = naive::read(sheet).ok()?;
-    let answer = |losing: Option<u8>| Answer { losing, reached: read.reached };
-    let game = Game::of(sheet, &read);
-    let highest = (game.positions() - 1) as u8;
-    Some(match game.solve(read.delay, Rule::Document) {
-        Verdict::Winning(level) => {
-            let flags: Vec<u8> = level.good.iter().map(|&good| u8::from(good)).collect();
-            let header = [read.start, read.actions, read.delay, highest];
-            (house(&[(b'S', &header), (b'W', &flags), (b'T', &level.masks)]), answer(None))
-        }
-        Verdict::Losing(m, level) => {
-            let ranks: Vec<u8> = level.ranks.iter().flat_map(|rank| rank.to_le_bytes()).collect();
-            let header = [read.start, read.actions, m, highest];
-            (house(&[(b'S', &header), (b'R', &ranks)]), answer(Some(m)))
-        }
-    })
-}
 
 #[test]
 fn made_sheets() {

@@ -1,11 +1,11 @@
 //! Tables made elsewhere: the proved judge against the naive one over our tables and altered ones, every single bit, damaged sheets,
 //! several faults at once, the largest tables and yards in which one line spoils; and what a yes means, at work in the cabin and by
 //! any choice out of the table.
+use loquatquoits_tests::both::judged;
 use loquatquoits_tests::cabin::Table;
 use loquatquoits_tests::counts::{count, report, Counts};
 use loquatquoits_tests::hubs::{Flaw, Hub, LINES};
-use loquatquoits_tests::judge::{self, Judgement, Offences};
-use loquatquoits_tests::proved;
+use loquatquoits_tests::judge::{Judgement, Offences};
 use loquatquoits_tests::random::Random;
 use loquatquoits_tests::sheets::{self, damage, random_yard, Shape, Yard};
 use loquatquoits_tests::tables::{
@@ -13,16 +13,6 @@ use loquatquoits_tests::tables::{
     with_commands_at, with_commands_taken, without_masks,
 };
 use loquatquoits_tests::working::{self, any_choice};
-
-/// What offends, once both judges have said the same; neither sheet is altered.
-fn judged(sheet: &[u8], table: &[u8]) -> Result<Offences, u8> {
-    let (lent_sheet, lent_table) = (sheet.to_vec(), table.to_vec());
-    let answer = proved::judge(&lent_sheet, &lent_table);
-    assert_eq!((&lent_sheet[..], &lent_table[..]), (sheet, table), "judging altered a sheet");
-    let expected = judge::judge(sheet, table);
-    assert_eq!(answer, expected.as_ref().map(Offences::judgement).map_err(|&number| number), "{sheet:?} {table:?}");
-    expected
-}
 
 fn words_of(answer: &Result<Offences, u8>) -> String {
     match answer.as_ref().map(Offences::judgement) {

@@ -2,6 +2,7 @@
 use loquatquoits_tests::naive;
 use loquatquoits_tests::random::Random;
 use loquatquoits_tests::sheets::{self, random_yard, Shape, Yard};
+use loquatquoits_tests::tables::faulty_sheet;
 use std::io::{Read, Write};
 use std::path::PathBuf;
 use std::process::{Command, Stdio};
@@ -72,6 +73,33 @@ fn document_01() {
     assert!(list(&sheets::cut_guess().at(1).sheet()).starts_with("lag 1 positions 4 commands 2 reached 2\n"));
     assert_eq!(list(&sheets::looped().at(7).sheet()), "refused 3\n");
     assert_eq!(list(b""), "refused 1\n");
+}
+
+/// Sheets with a G body (W-207): a holding yard is listed as the completed one, G = 0 as no G, and any other body is refused, after 5 and
+/// before 6.
+#[test]
+fn gates() {
+    let mut random = Random::new(207);
+    let mut differing = 0;
+    for _ in 0..100 {
+        let (own, actions) = (2 + random.below(4), 2 + random.below(2) as u8);
+        let shape = Shape { own, environment: 2, actions, permitted: 40, moves: 3, unsafe_positions: *random.pick(&[0, 20]) };
+        let yard = random_yard(&mut random, &shape).at(random.below(7) as u8);
+        let [plain, held] = [yard.clone(), yard.completed()].map(|yard| list(&yard.sheet()));
+        assert_eq!(list(&yard.holding().sheet()), held, "{yard:?}");
+        assert_eq!(held, naive::listing(&yard.holding().sheet()), "{yard:?}");
+        assert_eq!(list(&yard.gated(&[0]).sheet()), plain, "{yard:?}");
+        assert_eq!(list(&yard.gated(&[random.next() as u8, 1]).sheet()), "refused 24\n", "{yard:?}");
+        differing += usize::from(plain != held);
+    }
+    let shape = Shape { own: 17, environment: 16, actions: 8, permitted: 100, moves: 3, unsafe_positions: 0 };
+    let yard = random_yard(&mut random, &shape).at(4).holding();
+    for number in [1, 2, 3, 4, 5, 6, 7] {
+        let first = if number < 6 { number } else { 24 };
+        assert_eq!(list(&faulty_sheet(&yard, &[number, 24])), format!("refused {first}\n"));
+    }
+    println!("listings with holding gates: 100, {differing} other than without");
+    assert!(differing > 0);
 }
 
 #[test]

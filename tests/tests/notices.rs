@@ -269,7 +269,8 @@ fn largest_tables() {
 fn by_hand() {
     let mut random = Random::new(1);
     let lines = [[0, 0, 2], [0, 1, 3], [1, 0, 2], [1, 1, 3]].to_vec();
-    let fork = Yard { start: 0, actions: 2, delay: 0, kinds: vec![0, 0, 2, 2], targets: lines, moves: vec![[2, 1], [3, 1]] };
+    let (kinds, moves) = (vec![0, 0, 2, 2], vec![[2, 1], [3, 1]]);
+    let fork = Yard { start: 0, actions: 2, delay: 0, kinds, targets: lines, moves, gates: None };
     let mut check = |lag: u8, words: [u8; 2], masks: &[u8], one: &[u8], other: &[u8], left: [u8; 2], masks_left: &[u8]| {
         let yard = fork.at(lag);
         let filled = |masks: &[u8]| [masks, &vec![0; yard.pairs() - masks.len()]].concat();

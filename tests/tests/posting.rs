@@ -2,6 +2,7 @@
 //! each into outputs too short, exact and longer; against all parts of small tables, one by one; against fresh rounds, the notice being
 //! written into the yard's P bytes; several faults at once, the largest tables and tables that lose one pair a sweep; and the cabin at
 //! work after a notice.
+use loquatquoits_tests::both::posted;
 use loquatquoits_tests::cabin::{self, Table};
 use loquatquoits_tests::counts::{count, report, Counts};
 use loquatquoits_tests::hubs::{Flaw, Hub, LINES};
@@ -18,20 +19,6 @@ use loquatquoits_tests::tables::{
 };
 use loquatquoits_tests::working::{self, any_choice};
 use loquatquoits_tests::worst::{orders, ring, worst, Worst};
-
-/// What posting answers where the output is long enough, once both say the same for outputs too short, exact and longer; nothing that is
-/// lent for reading is altered.
-fn posted(sheet: &[u8], table: &[u8], notice: &[u8]) -> Result<Posted, u8> {
-    let lent = [sheet, table, notice].map(<[u8]>::to_vec);
-    let long = table.len() + 9;
-    let expected = posting::post(sheet, table, notice, long);
-    for room in [0, table.len().saturating_sub(1), table.len(), long] {
-        let in_room = if room < table.len() { posting::post(sheet, table, notice, room) } else { expected.clone() };
-        assert_eq!(proved::post(&lent[0], &lent[1], &lent[2], room), in_room, "room {room}: {lent:?}");
-    }
-    assert_eq!(lent, [sheet, table, notice], "posting altered what was lent for reading");
-    expected
-}
 
 fn words_of(answer: &Result<Posted, u8>, table: &[u8]) -> String {
     match answer {

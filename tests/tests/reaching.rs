@@ -66,7 +66,7 @@ fn one_way_on() {
         for kind in [2, 3] {
             let targets = (0..8).map(|c| [0, c, if c == on { 3 } else { 2 }]).chain([[1, 0, 3]]).collect();
             let kinds = vec![0, 0, 2, kind];
-            let yard = Yard { start: 0, actions: 8, delay: 0, kinds, targets, moves: vec![[2, 0], [3, 1]] };
+            let yard = Yard { start: 0, actions: 8, delay: 0, kinds, targets, moves: vec![[2, 0], [3, 1]], gates: None };
             assert_eq!(reached(&yard), 4);
             let mut cut = yard;
             cut.targets.remove(on as usize);
@@ -75,7 +75,8 @@ fn one_way_on() {
     }
     let kinds = vec![0, 1, 0, 0, 1, 3];
     let targets = (0..5).map(|p| [p, 0, 5]).collect();
-    let yard = Yard { start: 2, actions: 1, delay: 0, kinds, targets, moves: (0..5).map(|p| [5, p]).collect() };
+    let moves = (0..5).map(|p| [5, p]).collect();
+    let yard = Yard { start: 2, actions: 1, delay: 0, kinds, targets, moves, gates: None };
     assert_eq!(reached(&yard), 6);
     for left_out in [0, 1, 3, 4] {
         let mut cut = yard.clone();

@@ -1,78 +1,13 @@
 //! The proved reader and solver against the naive ones: document 01's yards, random yards of every lag, yards in which one line spoils,
 //! and damaged sheets. A rule of the naive solver that is wrong makes these fail: set NAIVE_RULE to strike-once, freshest-action or
 //! pass-unsafe and see.
+use loquatquoits_tests::both::compare;
 use loquatquoits_tests::counts::{count, report, Counts};
 use loquatquoits_tests::hubs::{wide_gate, windows, Flaw, Hub, LINES};
-use loquatquoits_tests::naive::{self, Game, Rule, Verdict};
-use loquatquoits_tests::proved::{self, Answer};
+use loquatquoits_tests::proved;
 use loquatquoits_tests::random::Random;
 use loquatquoits_tests::sheets::{self, damage, random_yard, Shape, Yard};
 use loquatquoits_tests::worst::{fan, standing, worst, Worst};
-
-fn rule() -> Rule {
-    match std::env::var("NAIVE_RULE").as_deref() {
-        Ok("strike-once") => Rule::StrikeOnce,
-        Ok("freshest-action") => Rule::FreshestAction,
-        Ok("pass-unsafe") => Rule::PassUnsafe,
-        _ => Rule::Document,
-    }
-}
-
-const SPARE: usize = 3;
-
-fn pattern(n: usize) -> (Vec<u8>, Vec<u16>) {
-    ((0..n).map(|k| (k * 37 + 11) as u8).collect(), (0..n).map(|k| (k * 7919 + 5) as u16).collect())
-}
-
-/// Solves by both, with buffers longer than needed, and compares the answer and every entry.
-fn compare(sheet: &[u8], counts: &mut Counts) {
-    let read = naive::read(sheet);
-    assert_eq!(proved::read(sheet), read, "reading {sheet:?}");
-    let room = match &read {
-        Err(_) => 4,
-        Ok(r) => r.places[1].1 * (r.actions as usize).pow(r.delay as u32 / 2),
-    };
-    let (masks_before, ranks_before) = pattern(room + SPARE);
-    let (mut masks, mut ranks) = (masks_before.clone(), ranks_before.clone());
-    let answer = proved::solve(sheet, &mut masks, &mut ranks);
-    let r = match read {
-        Err(number) => {
-            assert_eq!(answer, Err(number));
-            assert_eq!((&masks, &ranks), (&masks_before, &ranks_before), "a refusal altered the buffers");
-            assert_eq!(proved::make(sheet, &mut masks, &mut ranks, 64), Err(number));
-            return count(counts, format!("refused {number}"));
-        }
-        Ok(r) => r,
-    };
-    let (expected, level) = match Game::of(sheet, &r).solve(r.delay, rule()) {
-        Verdict::Winning(level) => (None, level),
-        Verdict::Losing(m, level) => (Some(m), level),
-    };
-    assert_eq!(answer, Ok(Answer { losing: expected, reached: r.reached }), "{sheet:?}");
-    let owed = level.masks.len();
-    assert_eq!(masks[..owed], level.masks[..], "masks of {sheet:?}");
-    assert_eq!(ranks[..owed], level.ranks[..], "ranks of {sheet:?}");
-    assert_eq!(masks[owed..], masks_before[owed..], "masks beyond of {sheet:?}");
-    assert_eq!(ranks[owed..], ranks_before[owed..], "ranks beyond of {sheet:?}");
-    count(counts, match expected {
-        None => format!("winning at {}", r.delay),
-        Some(m) => format!("losing {m}"),
-    });
-    short_buffers(sheet, room, counts);
-}
-
-/// Either buffer one entry short is refused, by making before it looks at the output, and nothing is touched.
-fn short_buffers(sheet: &[u8], room: usize, counts: &mut Counts) {
-    for (masks_room, ranks_room) in [(room - 1, room), (room, room - 1)] {
-        let (masks_before, _) = pattern(masks_room);
-        let (_, ranks_before) = pattern(ranks_room);
-        let (mut masks, mut ranks) = (masks_before.clone(), ranks_before.clone());
-        assert_eq!(proved::solve(sheet, &mut masks, &mut ranks), Err(8));
-        assert_eq!(proved::make(sheet, &mut masks, &mut ranks, 0), Err(8));
-        assert_eq!((masks, ranks), (masks_before, ranks_before), "refusal 8 altered the buffers");
-        count(counts, "refused 8".into());
-    }
-}
 
 fn solve(yard: &Yard) -> (Option<u8>, Vec<u8>, Vec<u16>) {
     let n = yard.pairs();
@@ -138,7 +73,7 @@ fn ladder(positions: usize, actions: u8, delay: u8) -> Yard {
         .collect();
     let moves = other.iter().enumerate().map(|(k, &p)| [p, own[(k + 1) % own.len()]]).collect();
     let kinds = (0..positions).map(|p| if p % 2 == 0 { 0 } else { 2 }).collect();
-    Yard { start: 0, actions, delay, kinds, targets, moves }
+    Yard { start: 0, actions, delay, kinds, targets, moves, gates: None }
 }
 
 #[test]
@@ -196,6 +131,7 @@ fn example_one() -> Yard {
         kinds: vec![0, 0, 0, 2, 2, 3, 2, 2],
         targets: vec![[0, 0, 3], [0, 1, 4], [1, 0, 6], [1, 1, 5], [2, 0, 5], [2, 1, 7]],
         moves: vec![[3, 1], [4, 2], [5, 0], [6, 0], [6, 2], [7, 0], [7, 1]],
+        gates: None,
     }
 }
 
