@@ -1,5 +1,5 @@
 -- The completed grid, as the code of src/hold.rt makes it, and that its targets are the held ones. Assumes nothing.
-use Prim.Native.Nat.{ℕ, _≤_, _<_}
+use Prim.Native.Nat.{ℕ, _/_, _≤_, _<_}
 use mathlib.Core.Path.{_≡_, refl, sym, _∙_, ap}
 use mathlib.Core.Bool.{Bool, true, false, cond}
 use mathlib.Core.Logic.{⊎-elim}
@@ -7,17 +7,18 @@ use mathlib.Core.List.{List, []}
 use native.Mathlib.Omega.{arith}
 use lib.Dec.{ltb}
 use lib.ListN.{length, getD}
+use lib.Seq.{ext-getD}
 use borrow.Author.Needs.{needs}
 use borrow.Author.Tests.{eq-eqb, ne-eqb, lt-ltb, le-ltb}
 use Rattle.theory.specs.Game.{absent}
 use Rattle.theory.specs.Holding.{orElse, held}
-use Rattle.theory.proofs.Fold.{same?, below?, both-none, both-false, both-true, both-second, getD-tabulate}
+use Rattle.theory.proofs.Fold.{same?, below?, both-none, both-false, both-true, both-second, length-tabulate, getD-tabulate}
 use Rattle.theory.proofs.Filling.{filled, filled-none, filled-more, filled-done}
 use Rattle.theory.proofs.Holding.{or-else-first, or-else-second}
 use Rattle.sheet.specs.Limits.{mostPositions, mostActions}
 use Rattle.sheet.specs.code.Arrays.{absentMark, unmark, gridOf, targetAt}
-use Rattle.sheet.proofs.GridLaws.{unmark-absent, unmark-to, target-past, target-no-action, target-in}
-use Rattle.gates.specs.code.Held.{cellHeld, rowHeld, rowHeldAt, gridHeld, heldGrid}
+use Rattle.sheet.proofs.GridLaws.{length-row, length-grid, row-at, unmark-absent, unmark-to, target-past, target-no-action, target-in}
+use Rattle.gates.specs.code.Held.{cellHeld, rowHeld, rowHeldAt, WholeRows, gridHeld, heldGrid}
 
 -- one cell
 
@@ -38,6 +39,25 @@ pub ruleset cells = (needs, cell-own, cell-beyond, cell-first)
 
 -- a row, and all of them
 
+still-cell : (actions : ℕ) (row : List ℕ) (x : ℕ) → getD row 0 0 ≡ absentMark → cellHeld actions row x ≡ getD row x 0
+still-cell actions row x e =
+    ⊎-elim
+    (λ (a : getD row x 0 ≡ absentMark).
+    ⊎-elim
+    (λ (h : x < actions). sym (cell-first actions row x a h) ∙ e ∙ sym a)
+    (λ (h : actions ≤ x). sym (cell-beyond actions row x h))
+    (below? x actions))
+    (λ (n : getD row x 0 ≡ absentMark → ⊥). sym (cell-own actions row x n))
+    (same? (getD row x 0) absentMark)
+
+pub row-still : (actions : ℕ) (row : List ℕ) → length row ≡ mostActions → getD row 0 0 ≡ absentMark → row ≡ rowHeld actions row
+unfolding rowHeld
+row-still actions row n e =
+    ext-getD 0 _ _ (n ∙ sym (length-tabulate (cellHeld actions row) 0 mostActions))
+    (λ x h.
+    sym
+    (getD-tabulate (cellHeld actions row) mostActions x 0 (rw n at h) ∙ still-cell actions row x e))
+
 pub row-done : (actions : ℕ) (row l : List ℕ) (k : ℕ) {m : List ℕ} → m ≡ filled (cellHeld actions row) k l → length l ≡ mostActions → k ≤ mostActions
     → mostActions ≤ k → m ≡ rowHeld actions row
 unfolding rowHeld
@@ -52,11 +72,22 @@ pub grid-done : (actions : ℕ) (g l : List (List ℕ)) (k : ℕ) {m : List (Lis
 unfolding gridHeld
 grid-done actions g l k e n h i = filled-done (rowHeldAt actions g) l k mostPositions e n h i
 
-pub ruleset holding = (needs, filled-none, filled-more, row-done, row-next, grid-done)
+pub row-whole : (g : List (List ℕ)) (q : ℕ) → WholeRows g → q < mostPositions → length (getD g q []) ≡ mostActions
+row-whole g q w h = w .row q h
+
+pub ruleset holding = (needs, filled-none, filled-more, row-still, row-done, row-next, row-whole, grid-done)
 
 -- the grid of a C body
 
 module _ (actions : ℕ) (c : List ℕ) {g : List (List ℕ)} (e : g ≡ gridOf c) where
+  pub whole-grid : WholeRows g
+  unfolding gridOf
+  whole-grid =
+      record {
+        rows = ap length e ∙ length-grid c (length c / 3);
+        row = λ q h. ap length (ap (λ (x : List (List ℕ)). getD x q []) e ∙ row-at c (length c / 3) q h) ∙ length-row c (length c / 3) q;
+      }
+
   pub grid-held : {h : Bool} {r : List (List ℕ)} → h ≡ true → r ≡ gridHeld actions g → r ≡ heldGrid h actions c
   unfolding heldGrid
   grid-held t j = rw (j, e, t)
@@ -65,7 +96,7 @@ module _ (actions : ℕ) (c : List ℕ) {g : List (List ℕ)} (e : g ≡ gridOf 
   unfolding heldGrid
   grid-plain f = rw (f, e)
 
-pub ruleset completing = (needs, grid-held, grid-plain)
+pub ruleset completing = (needs, whole-grid, grid-held, grid-plain)
 
 -- what a completed grid says
 
@@ -87,13 +118,13 @@ module _ (actions : ℕ) (row : List ℕ) (x : ℕ) where
       missing e false = unmark-absent e
 
 module _ (actions : ℕ) (few : actions ≤ mostActions) (g : List (List ℕ)) where
-  row-at : (q : ℕ) → q < mostPositions → getD (gridHeld actions g) q [] ≡ rowHeld actions (getD g q [])
+  held-row-at : (q : ℕ) → q < mostPositions → getD (gridHeld actions g) q [] ≡ rowHeld actions (getD g q [])
   unfolding gridHeld rowHeldAt
-  row-at q h = getD-tabulate (rowHeldAt actions g) mostPositions q [] h
+  held-row-at q h = getD-tabulate (rowHeldAt actions g) mostPositions q [] h
 
   cell-at : (q x : ℕ) → q < mostPositions → x < mostActions → getD (getD (gridHeld actions g) q []) x 0 ≡ cellHeld actions (getD g q []) x
   unfolding rowHeld
-  cell-at q x h k = rw (row-at q h) (getD-tabulate (cellHeld actions (getD g q [])) mostActions x 0 k)
+  cell-at q x h k = rw (held-row-at q h) (getD-tabulate (cellHeld actions (getD g q [])) mostActions x 0 k)
 
   absent-past : (f : List (List ℕ)) (q x : ℕ) → mostPositions ≤ q → targetAt f q x ≡ absent
   absent-past f q x h = sym (target-past f q x h) ∙ unmark-absent refl

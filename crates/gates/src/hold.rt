@@ -5,8 +5,9 @@ use sheet::limits::ROW;
 use sheet::limits::ROWS;
 ghost use mathlib.Core.Path.{_≡_};
 ghost use Prim.Native.Nat.{_<_};
+ghost use lib.ListN.{length};
 ghost use Rattle.sheet.specs.Limits.{mostActions};
-ghost use Rattle.gates.specs.code.Held.{cellHeld, rowHeld, gridHeld, heldGrid};
+ghost use Rattle.gates.specs.code.Held.{cellHeld, rowHeld, WholeRows, gridHeld, heldGrid};
 
 // The target of action x. Where it is missing, and x is one of the game's actions, that of action 0, which may be missing too.
 fn held_cell(row: &[u16; ROW], actions: usize, x: usize) -> u16
@@ -23,10 +24,15 @@ fn held_cell(row: &[u16; ROW], actions: usize, x: usize) -> u16
     row[0]
 }
 
+// A row without a target of action 0 stays as it is; so do the many past the last position.
 fn held_row(row: &[u16; ROW], actions: usize) -> [u16; ROW]
+    requires { ⌜ length (now row) ≡ mostActions ⌝ }
     ensures { λ r. ⌜ r ≡ rowHeld actions (now (row .entry)) ⌝ }
 {
-    let mut held = [ABSENT; ROW];
+    let mut held = *row;
+    if row[0] == ABSENT {
+        return held;
+    }
     for x in 0..ROW {
         held[x] = held_cell(row, actions, x);
     }
@@ -34,10 +40,10 @@ fn held_row(row: &[u16; ROW], actions: usize) -> [u16; ROW]
 }
 
 fn hold(grid: &[[u16; ROW]; ROWS], actions: usize) -> [[u16; ROW]; ROWS]
+    requires { ⌜ WholeRows (now grid) ⌝ }
     ensures { λ r. ⌜ r ≡ gridHeld actions (now (grid .entry)) ⌝ }
 {
-    let row = [ABSENT; ROW];
-    let mut held = [row; ROWS];
+    let mut held = *grid;
     for q in 0..ROWS {
         held[q] = held_row(&grid[q], actions);
     }

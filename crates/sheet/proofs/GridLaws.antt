@@ -19,7 +19,7 @@ use borrow.Author.Needs.{needs}
 use lib.Dec.{ltb}
 
 module _ (c : List ℕ) (n : ℕ) where
-  length-row : (q : ℕ) → length (rowOf c n q) ≡ mostActions
+  pub length-row : (q : ℕ) → length (rowOf c n q) ≡ mostActions
   unfolding rowOf
   length-row q = length-tabulate _ 0 mostActions
 
@@ -27,7 +27,7 @@ module _ (c : List ℕ) (n : ℕ) where
   unfolding rowOf
   cell-at q x h = getD-tabulate (λ x. markOf (targetIn c q x n)) mostActions x 0 h
 
-  length-grid : length (gridAfter c n) ≡ mostPositions
+  pub length-grid : length (gridAfter c n) ≡ mostPositions
   unfolding gridAfter
   length-grid = length-tabulate _ 0 mostPositions
 

@@ -19,5 +19,6 @@ abbrev μ-loop : tie.MeasureT-loop
 pub held-row-spec : {M : Type 1} → statement M
 held-row-spec =
     tie.close
-    (tie.spec Inv-loop μ-loop (λ c. search holding) (λ c κs. search holding) (λ c. search holding) (λ c. search holding)
-    (λ c. search holding) (λ c. search holding) (λ c. search holding) (λ c. search holding))
+    (tie.spec Inv-loop μ-loop (λ c. search holding) (λ c. search holding) (λ c. search holding) (λ c κs. search holding)
+    (λ c. search holding) (λ c. search holding) (λ c. search holding) (λ c. search holding) (λ c. search holding)
+    (λ c. search holding))
