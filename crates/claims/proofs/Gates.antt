@@ -63,6 +63,20 @@ module _ (s : List ℕ) (l : Layout) (reads : readAnswer s ≡ accepted l) where
   unfolding gameOf
   reached-written = carries s l reads .reached ∙ reached-same (isHolding s) (writtenGame s)
 
+-- "24 .. wherever those are tested": what reading refuses, making, judging and posting refuse with its number
+module _ (s : List ℕ) (n : ℕ) (e : readAnswer s ≡ refused n) where
+  pub refused-making : (masks ranks output : ℕ) → makeAnswer s masks ranks output ≡ refused n
+  unfolding makeAnswer solveAnswer onAccepted
+  refused-making masks ranks output = rw e
+
+  pub refused-judging : (table : List ℕ) → judgeAnswer s table ≡ refused n
+  unfolding judgeAnswer onAccepted
+  refused-judging table = rw e
+
+  pub refused-posting : (table notice : List ℕ) (room : ℕ) → postAnswer s table notice room ≡ refused n
+  unfolding postAnswer onAccepted
+  refused-posting table notice room = rw e
+
 -- two sheets that mean the same
 
 pub bodies-yard : (s t : List ℕ) → SameBodies s t → SameYard s t

@@ -20,7 +20,7 @@ pub record Holds (s : List ℕ) : Type 0 where
   pub no-more : (p c q : ℕ) → gameOf s .target p c ≡ to q → (lineTarget s p c ≡ to q) ⊎ ((c < actionCount s) × (lineTarget s p 0 ≡ to q))
   pub rest : gameOf s ≡ gameBy (positionsBody s) (startOf s) (actionCount s) (gameOf s .target) (movesOf (movesBody s))
 
--- two sheets with the same S, P, C and U bodies, and both with holding gates or neither: "G = 0" and none too
+-- two sheets with the same S, P, C and U bodies, and both with holding gates or neither: one may have a G body of 0 and the other none
 pub record SameBodies (s t : List ℕ) : Type 0 where
   pub header : headerBody s ≡ headerBody t
   pub positions : positionsBody s ≡ positionsBody t

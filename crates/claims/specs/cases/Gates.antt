@@ -23,7 +23,7 @@ gateCases =
     ∷ unsolved (gatedSplit (2 ∷ []) 1) 3 3 24
     ∷ unsolved (gatedSplit (1 ∷ 1 ∷ []) 1) 3 3 24
     ∷ unsolved (gatedSplit [] 1) 3 3 24
-    -- 5 before 24 before 6: a line of U too low, with G of 2; a position without a move, with G of 2 and of 1
+    -- 5 before 24 before 6: lines of U that fall, with G of 2; a position without a move, with G of 2 and of 1
     ∷ unsolved (gatedWith (0 ∷ 2 ∷ 1 ∷ []) (0 ∷ 0 ∷ 2 ∷ []) (0 ∷ 0 ∷ 2 ∷ 1 ∷ 1 ∷ 2 ∷ []) (2 ∷ 1 ∷ 2 ∷ 0 ∷ []) (2 ∷ [])) 3 3 5
     ∷ unsolved (gatedWith (0 ∷ 2 ∷ 1 ∷ []) (0 ∷ 0 ∷ 2 ∷ []) (0 ∷ 0 ∷ 2 ∷ []) (2 ∷ 0 ∷ 2 ∷ 1 ∷ []) (2 ∷ [])) 3 3 24
     ∷ unsolved (gatedWith (0 ∷ 2 ∷ 1 ∷ []) (0 ∷ 0 ∷ 2 ∷ []) (0 ∷ 0 ∷ 2 ∷ []) (2 ∷ 0 ∷ 2 ∷ 1 ∷ []) (1 ∷ [])) 3 3 6

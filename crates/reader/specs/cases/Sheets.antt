@@ -62,7 +62,7 @@ layoutAt at holding start actions delay p c u reached =
 unfoldable pub layout : ℕ → ℕ → ℕ → ℕ → ℕ → ℕ → ℕ → Layout
 layout = layoutAt 20 false
 
--- the split gate's sheet with holding gates, and with faults in U, G and P's moves
+-- the split gate with holding gates, and with other C, U and G bodies
 unfoldable pub heldBytes : List ℕ
 heldBytes = gatedSplit (1 ∷ []) 1
 
