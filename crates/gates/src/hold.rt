@@ -54,9 +54,9 @@ fn hold(grid: &[[u16; ROW]; ROWS], actions: usize) -> [[u16; ROW]; ROWS]
 pub fn grid_for(c: &[u8], actions: usize, holding: bool) -> [[u16; ROW]; ROWS]
     ensures { λ r. ⌜ r ≡ heldGrid holding actions (now (c .entry)) ⌝ }
 {
-    let grid = grid_of(c);
     if holding {
+        let grid = grid_of(c);
         return hold(&grid, actions);
     }
-    grid
+    grid_of(c)
 }

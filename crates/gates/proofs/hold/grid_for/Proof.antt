@@ -6,4 +6,5 @@ use Rattle.gates.proofs.hold.grid_for.Tie as tie
 pub grid-for-spec : {M : Type 1} → statement M
 grid-for-spec =
     tie.close
-    (tie.spec (λ c κs. search completing) (λ c κs. search completing) (λ c. search completing) (λ c. search completing))
+    (tie.spec (λ c κs. search completing) (λ c κs. search completing) (λ c. search completing) (λ c κs. search completing)
+    (λ c. search completing))
