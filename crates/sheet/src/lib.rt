@@ -1,4 +1,6 @@
 // Sheets: the house form, what the bodies of a game sheet say, and the arrays that they mean. `reader` reads game sheets.
+#![tactic(auto)]
+
 pub mod limits; // document 01's numbers
 pub mod refusal; // the project's refusals and their numbers
 pub mod form; // contents and bodies of any sheet

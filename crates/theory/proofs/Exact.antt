@@ -76,7 +76,7 @@ module _ (G : Game) (legal : Legal G) (d : ℕ) (σ : Strategy G.actions d) wher
   last_played (then (then c (by_move x y)) (by_move r m)) o (suc n) l =
       absurd (not_both (legal.moves _ x y).controller (legal.moves _ r m).from_environment)
   last_played (then (then {π} c (by_action q t)) (by_move r m)) o (suc n) l =
-      one_more π q r n (omega arith) (last_played c (legal.targets _ _ q t).from_controller n (omega arith))
+      one_more π q r n (omega arith) (last_played {π = π} c (legal.targets _ _ q t).from_controller n (omega arith))
 
   -- so they are the pending word of the history one delay back
   pub pending_played : {π : Play} → Consistent G d σ π → G.controller (last G π) ≡ true → d ≤ index π

@@ -437,7 +437,7 @@ module _ {A : Type 0} (p : A → Bool) where
       rw (any_of_cons y ys)
       (⊎_elim
       (λ (q : x ≡ y). either_left _ _ (rw q at e))
-      (λ (n : Memᴰ x ys). either_right _ _ (any_of_holds n e))
+      (λ (n : Memᴰ x ys). either_right _ _ (any_of_holds {xs = ys} n e))
       (Memᴰ.cases_cons m))
 
   pub any_of_none : {x : A} {xs : List A} → Memᴰ x xs → any_of p xs ≡ false → p x ≡ false

@@ -62,8 +62,8 @@ module _ {G : Game} {A d : ℕ} {σ : Strategy A d} where
   unfolding back
   back_consistent zero c = c
   back_consistent (suc k) here = here
-  back_consistent (suc k) (then c (by_action q e)) = back_consistent k c
-  back_consistent (suc k) (then c (by_move r m)) = back_consistent k c
+  back_consistent (suc k) (then {π = π} c (by_action q e)) = back_consistent {π = π} k c
+  back_consistent (suc k) (then {π = π} c (by_move r m)) = back_consistent {π = π} k c
 
   -- every move of a consistent play is a Next
   pub back_next : {π : Play} (k : ℕ) → Consistent G d σ π → k < index π → Next G d σ (back (suc k) π) (back k π)

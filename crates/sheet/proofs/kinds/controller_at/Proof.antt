@@ -1,8 +1,0 @@
--- `sheet::kinds::controller_at` meets its contract, by the laws of proofs/KindLaws.antt. Assumes nothing.
-use Rattle.sheet.proofs.KindLaws.{kinds}
-use Rattle.sheet.proofs.kinds.controller_at.Statement.{statement}
-use Rattle.sheet.proofs.kinds.controller_at.Tie as tie
-
-pub controller-at-spec : {M : Type 1} → statement M
-controller-at-spec =
-    tie.close (tie.spec (λ c κs. search kinds) (λ c. search kinds) (λ c. search kinds) (λ c. search kinds) (λ c. search kinds))

@@ -1,7 +1,0 @@
--- `sheet::kinds::known_at` meets its contract, by the laws of proofs/KindLaws.antt. Assumes nothing.
-use Rattle.sheet.proofs.KindLaws.{kinds}
-use Rattle.sheet.proofs.kinds.known_at.Statement.{statement}
-use Rattle.sheet.proofs.kinds.known_at.Tie as tie
-
-pub known-at-spec : {M : Type 1} → statement M
-known-at-spec = tie.close (tie.spec (λ c κs. search kinds) (λ c. search kinds) (λ c. search kinds) (λ c. search kinds) (λ c. search kinds))

@@ -1,0 +1,26 @@
+-- `first_lines` meets its contract. The entries of the positions passed are in place. Assumes nothing.
+use Prim.Native.Nat.{◌-◌, ◌≤◌}
+use mathlib.Core.Path.{◌≡◌}
+use mathlib.Core.Bool.{true}
+use native.Mathlib.Omega.{arith}
+use lib.ListN.{length}
+use Rattle.theory.specs.Fold.{all_below}
+use Rattle.theory.proofs.Filling.{filled}
+use Rattle.sheet.specs.code.Arrays.{from_below, first_line, line_count, index_entries}
+use Rattle.sheet.proofs.MoveLaws.{index_inside, indexing}
+use Rattle.sheet.proofs.moves.first_lines.Goals as goal
+
+pub overflow_cast-firsts : goal.overflow_cast-firsts
+overflow_cast-firsts c = omega (arith, index_inside _ _ c.skip_below-line.ensures)
+
+pub loop-q-init : goal.loop-q-init
+loop-q-init c = search indexing
+
+pub skip_below-line-requires : goal.skip_below-line-requires
+skip_below-line-requires c = search indexing
+
+pub loop-q-preserved : goal.loop-q-preserved
+loop-q-preserved c = search indexing
+
+pub returns : goal.returns
+returns c = search indexing

@@ -1,0 +1,14 @@
+-- `first_lines` meets its contract. The entries of the positions passed are in place. Assumes nothing.
+use Prim.Native.Nat.{◌-◌, ◌≤◌}
+use mathlib.Core.Path.{◌≡◌}
+use mathlib.Core.Bool.{true}
+use native.Mathlib.Omega.{arith}
+use lib.ListN.{length}
+use Rattle.theory.specs.Fold.{all_below}
+use Rattle.theory.proofs.Filling.{filled}
+use Rattle.sheet.specs.code.Arrays.{from_below, first_line, line_count, index_entries}
+use Rattle.sheet.proofs.MoveLaws.{index_inside, indexing}
+use Rattle.sheet.proofs.moves.first_lines.Given as goal
+
+abbrev pub invariant-loop-q : goal.invariant-loop-q
+invariant-loop-q l = (l.q ≤ index_entries) × (l.line ≤ line_count l.u) × (all_below (from_below l.u l.q) l.line ≡ true) × (length l.initial.firsts ≡ index_entries) × (length l.firsts ≡ index_entries) × (l.firsts ≡ filled (first_line l.u) l.q l.initial.firsts)

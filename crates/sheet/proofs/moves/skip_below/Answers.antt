@@ -1,0 +1,26 @@
+-- `skip_below` meets its contract. Every line passed is of a position below q. Assumes nothing.
+use Prim.Native.Nat.{◌-◌, ◌≤◌}
+use mathlib.Core.Path.{◌≡◌}
+use mathlib.Core.Bool.{true}
+use Rattle.theory.specs.Fold.{all_below}
+use Rattle.sheet.specs.code.Arrays.{from_below, line_count}
+use Rattle.sheet.proofs.MoveLaws.{skipping}
+use Rattle.sheet.proofs.moves.skip_below.Goals as goal
+
+pub line_count-n-requires : goal.line_count-n-requires
+line_count-n-requires c = search skipping
+
+pub loop-line-init : goal.loop-line-init
+loop-line-init c = search skipping
+
+pub wide-requires : goal.wide-requires
+wide-requires c = search skipping
+
+pub returns-then-q-wide : goal.returns-then-q-wide
+returns-then-q-wide c = search skipping
+
+pub loop-line-preserved : goal.loop-line-preserved
+loop-line-preserved c = search skipping
+
+pub returns : goal.returns
+returns c = search skipping
