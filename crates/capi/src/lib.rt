@@ -1,4 +1,6 @@
 // Reading and solving for C and Rust callers (include/loquatquoits.h). Every function takes any bytes and any lengths.
+#![tactic(auto)]
+
 pub mod tables; // making sheets, the masks of a table sheet, judging one, and posting a notice on one
 pub mod control; // opening, observing and acting
 

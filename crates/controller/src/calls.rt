@@ -10,7 +10,7 @@ ghost use Rattle.controller.specs.Meaning.{step_means, open_reply};
 ghost use Rattle.controller.specs.code.Usable.{Usable};
 ghost use Rattle.controller.specs.code.Ages.{age_with, aged_means};
 
-use crate::turn::{action_of, least_flagged, lowest, mask_at_lem};
+use crate::turn::{action_of, least_flagged, lowest, mask_at};
 use sheet::form::{part, wide};
 use sheet::refusal::Refusal;
 use state::bytes::{STATE_BYTES, decode};
@@ -20,14 +20,14 @@ use table::reading::{TableLayout, TableReading, read};
 
 // The record of a report: the position at an index.
 #[repr(C)]
-#[derive(Drop)]
+#[derive(Clone, Copy)]
 pub struct Observation {
     pub index: usize,
     pub position: u8,
 }
 
 // What a call answers.
-#[derive(Drop)]
+#[derive(Clone, Copy)]
 pub enum Decision {
     Accepted,
     Acted(u8),
@@ -35,7 +35,7 @@ pub enum Decision {
 }
 
 // The answer, and the state after the call: the one before it where the answer is a refusal.
-#[derive(Drop)]
+#[derive(Clone, Copy)]
 pub struct Step {
     pub decision: Decision,
     pub state: State,
@@ -79,7 +79,7 @@ fn take_turn(delay: u8, s: State, action: u8) -> Step
 }
 
 // Where a report goes: its slot's age, or why it goes nowhere.
-#[derive(Drop)]
+#[derive(Clone, Copy)]
 pub enum Aged {
     At(usize),
     Refused(Refusal),
@@ -154,7 +154,7 @@ fn act_with(l: TableLayout, sheet: &[u8], s: State) -> Step
     }
     let last = s.last;
     let masks = l.masks;
-    let mask = mask_at_lem(l, part(sheet, masks), s.window[delay].position, last);
+    let mask = mask_at(l, part(sheet, masks), s.window[delay].position, last);
     if mask == 0 {
         return refuse(s, Refusal::NoAction);
     }

@@ -59,7 +59,7 @@ fn node_of(actions: u8, position: u8, last: [u8; HELD], n: usize) -> usize
 }
 
 // The mask of the node of a position and the actions held.
-pub(crate) fn mask_at_lem(l: TableLayout, masks: &[u8], position: u8, last: [u8; HELD]) -> u8
+pub(crate) fn mask_at(l: TableLayout, masks: &[u8], position: u8, last: [u8; HELD]) -> u8
     requires { l.delay ≤ most_delay }
     ensures { result
         ≡ get_or masks.now (position * l.actions ^ (l.delay / 2) + word_of l.actions (take (l.delay / 2) last)) 0 }

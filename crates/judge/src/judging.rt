@@ -25,7 +25,7 @@ use table::reading::{TableLayout, TableReading, mask_count, mask_of, read as rea
 use walk::level::{Level, level_at};
 
 // The number of the first offending word in W, or of the first offending node.
-#[derive(Drop)]
+#[derive(Clone, Copy)]
 pub enum Judgement {
     Sound,
     BadWord(usize),

@@ -1,4 +1,6 @@
 // The listing, from the bytes of a sheet to the lines that document 01 prints.
+#![tactic(auto)]
+
 ghost use Rattle.std.specs.Prelude.{◌≡◌, length};
 ghost use Rattle.theory.specs.Answer.{accepted};
 ghost use Rattle.sheet.specs.Limits.{most_words};

@@ -1,4 +1,6 @@
 // The listing program: document 01's lines for the yard sheet on standard input. tests/tests/listing.rs runs it.
+#![tactic(auto)]
+
 use lister::{MOST_INPUT, MOST_TEXT, list_into};
 
 // One byte more than is allowed is read, so that input that is too long is seen to be. Rattle has no exit

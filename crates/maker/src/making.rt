@@ -18,7 +18,7 @@ use solver::solve::{Solution, solve};
 use writer::writing::{TABLE_START, put_rank_sheet, put_table_sheet};
 
 // The length of the sheet that was written and the number of reached positions, with the losing delay where it is a rank sheet.
-#[derive(Drop)]
+#[derive(Clone, Copy)]
 pub enum Making {
     Winning {
         size: usize,

@@ -1,4 +1,6 @@
 // Closing notices: document 02's W-205, refusals 1 to 7, 10, 11, 21, 23 and 9.
+#![tactic(auto)]
+
 pub mod closing; // closed positions
 pub mod masks; // what a notice leaves of the masks
 pub mod flags; // and of the first words

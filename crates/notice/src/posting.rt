@@ -24,7 +24,7 @@ use table::reading::{TableLayout, TableReading, read_shape, some_flagged};
 use writer::writing::{TABLE_START, put_table_sheet};
 
 // The length of the sheet that was written: with a first word that remains, or with none.
-#[derive(Drop)]
+#[derive(Clone, Copy)]
 pub enum Posting {
     Posted(usize),
     Emptied(usize),

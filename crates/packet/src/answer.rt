@@ -8,7 +8,7 @@ use state::bytes::STATE_BYTES;
 
 // The refusal's number, 0 where the packet is accepted, and the place of the refused record, 0 where there is none.
 #[repr(C)]
-#[derive(Drop)]
+#[derive(Clone, Copy)]
 pub struct PacketAnswer {
     pub refusal: u8,
     pub place: usize,

@@ -16,7 +16,7 @@ use table::reading::{TableReading, read};
 const MOST_OBSERVATIONS: usize = 16;
 
 // What a packet is answered. RefusedAt has the place of the refused record, from 0.
-#[derive(Drop)]
+#[derive(Clone, Copy)]
 pub enum Hearing {
     Accepted,
     Refused(Refusal),
@@ -24,7 +24,7 @@ pub enum Hearing {
 }
 
 // The answer, and the state's bytes after the packet: those before it where it is refused.
-#[derive(Drop)]
+#[derive(Clone, Copy)]
 pub struct Heard {
     pub hearing: Hearing,
     pub state: [u8; STATE_BYTES],
@@ -32,7 +32,7 @@ pub struct Heard {
 
 // How a packet stands while its records are walked: all are accepted so far under a sheet's highest position and delay, or it is
 // refused.
-#[derive(Drop)]
+#[derive(Clone, Copy)]
 enum Standing {
     Listening(u8, u8),
     Refused(Refusal),
@@ -40,7 +40,7 @@ enum Standing {
 }
 
 // The state's bytes are those so far.
-#[derive(Drop)]
+#[derive(Clone, Copy)]
 struct Packet {
     standing: Standing,
     state: [u8; STATE_BYTES],

@@ -17,7 +17,7 @@ use walk::level::{Level, is_sized};
 const QUEUE: usize = 4096;
 
 // Whether a sweep took anything away, and how many nodes it put into the queue.
-#[derive(Drop)]
+#[derive(Clone, Copy)]
 pub struct SweepEnd {
     pub changed: bool,
     pub tail: usize,

@@ -20,7 +20,7 @@ pub(crate) const MOVES: usize = ROWS * MOVES_ROW;
 
 // A fallen node's position, and what its word says of the nodes before it: their word is their oldest action times younger, plus rest, and
 // the action is the one by which they lead there. Where no word is pending that is the oldest one itself.
-#[derive(Drop)]
+#[derive(Clone, Copy)]
 pub struct Spot {
     pub at: u8,
     pub words: u16,

@@ -15,7 +15,7 @@ use sheet::refusal::Refusal;
 
 // What an accepted reading carries: the start bytes, the places of the bodies, how many positions lie on plays, and whether the
 // gates hold.
-#[derive(Drop)]
+#[derive(Clone, Copy)]
 pub struct Layout {
     pub start: u8,
     pub actions: u8,
@@ -29,7 +29,7 @@ pub struct Layout {
 }
 
 // The answer to every list of bytes.
-#[derive(Drop)]
+#[derive(Clone, Copy)]
 pub enum Reading {
     Accepted(Layout),
     Refused(Refusal),

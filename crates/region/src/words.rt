@@ -83,7 +83,7 @@ fn any_good(p: &[u8], grid: &[[u16; ROW]; ROWS], level: Level, ranks: &[u16]) ->
 }
 
 // The same for any level: no word is good where it or its start is too large.
-pub fn some_good_lem(p: &[u8], grid: &[[u16; ROW]; ROWS], level: Level, ranks: &[u16]) -> bool
+pub fn some_good(p: &[u8], grid: &[[u16; ROW]; ROWS], level: Level, ranks: &[u16]) -> bool
     ensures { result ≡ some_good p.now grid.now level ranks.now }
 {
     if !is_sized(p.len(), level) {

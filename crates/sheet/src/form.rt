@@ -9,7 +9,7 @@ ghost use Rattle.theory.specs.Bytes.{number_at};
 const ENTRY: usize = 5;
 
 // Where a body lies in its sheet.
-#[derive(Drop)]
+#[derive(Clone, Copy)]
 pub struct Place {
     pub at: usize,
     pub size: usize,

@@ -3,7 +3,7 @@ ghost use Rattle.std.specs.Prelude.{◌≡◌};
 ghost use Rattle.sheet.specs.Kinds.{kind_of, kind_at, known_at, controller_at, environment_at, safe_at};
 ghost use Rattle.theory.specs.Delay.{on_right};
 
-#[derive(Drop)]
+#[derive(Clone, Copy)]
 pub enum Kind {
     Position { controller: bool, safe: bool },
     Invalid,

@@ -10,7 +10,7 @@ use sheet::limits::{INDEX, MOST_MOVES, ROW, ROWS};
 use walk::level::level_at;
 
 // Where the search stopped: whether the asked delay wins, the delay whose ranks stand, and the number of its rounds.
-#[derive(Drop)]
+#[derive(Clone, Copy)]
 pub struct Stop {
     pub wins: bool,
     pub delay: u8,
@@ -56,7 +56,7 @@ pub(crate) fn search(
             &mut ranks[..nodes],
             &mut masks[..nodes],
         );
-        let wins = some_good_lem(p, grid, level, &ranks[..nodes]);
+        let wins = some_good(p, grid, level, &ranks[..nodes]);
         if !wins {
             break Stop {
                 wins: false,

@@ -1,4 +1,6 @@
 // Solving: document 01's table and answer at every delay, from a game sheet's bytes (refusals 1 to 8).
+#![tactic(auto)]
+
 pub mod index; // the chains of lines and cells
 pub mod mark; // one action of one node
 pub mod spread; // the nodes before a fallen one

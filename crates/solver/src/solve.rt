@@ -17,7 +17,7 @@ use sheet::refusal::Refusal;
 use walk::level::level_at;
 
 // Losing: the least delay at which no strategy wins.
-#[derive(Drop)]
+#[derive(Clone, Copy)]
 pub enum Solution {
     Winning(Layout),
     Losing(u8, Layout),

@@ -17,7 +17,7 @@ pub const CELLS: usize = ROWS * ROW;
 
 // What falls with a node in round n: an action, chosen where a word's younger actions are rest; the node's word is both. The word
 // of a node before is its oldest action times younger, plus rest.
-#[derive(Drop)]
+#[derive(Clone, Copy)]
 pub struct Spot {
     pub n: u16,
     pub words: usize,

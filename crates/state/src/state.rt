@@ -13,7 +13,7 @@ pub const HELD: usize = 3;
 pub const SLOTS: usize = 7;
 
 // An observation: is the position of this index known, and which one it is.
-#[derive(Drop)]
+#[derive(Clone, Copy)]
 pub struct Slot {
     pub known: bool,
     pub position: u8,
@@ -42,7 +42,7 @@ impl Slot {
 }
 
 // last[k] is the action of turn - 1 - k, window[k] the position at index 2 * turn - k; what is not held is 0.
-#[derive(Drop)]
+#[derive(Clone, Copy)]
 pub struct State {
     pub turn: usize,
     pub last: [u8; HELD],

@@ -15,7 +15,7 @@ use sheet::size::power;
 const BYTE: u8 = 8;
 
 // What an accepted reading carries: the start bytes and the places of the W and T bodies.
-#[derive(Drop)]
+#[derive(Clone, Copy)]
 pub struct TableLayout {
     pub start: u8,
     pub actions: u8,
@@ -25,7 +25,7 @@ pub struct TableLayout {
     pub masks: Place,
 }
 
-#[derive(Drop)]
+#[derive(Clone, Copy)]
 pub enum TableReading {
     Accepted(TableLayout),
     Refused(Refusal),

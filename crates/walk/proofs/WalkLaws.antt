@@ -67,8 +67,8 @@ safe_position p q e =
     (λ (h : length p ≤ q). absurd (not_both (rw (le-ltb q (length p) h) at e) refl))
     (below? q (length p))
 
-pub safe_small : (p : List ℕ) (q : ℕ) {r : Bool} → r ≡ safe_at p q → not r ≡ false → length p ≤ most_positions → q < most_positions
-safe_small p q {r} e n h = let k = safe_position p q (sym e ∙ not-false r n) in omega arith
+pub safe_small : (p : List ℕ) (q : ℕ) {r : Bool} → r ≡ safe_at p q → r ≡ true → length p ≤ most_positions → q < most_positions
+safe_small p q {r} e n h = let k = safe_position p q (sym e ∙ n) in omega arith
 
 module _ (p : List ℕ) (g : List (List ℕ)) (f : List ℕ) (l : Level) (q w c : ℕ) (x : Choice) where
   abbrev joined : ℕ

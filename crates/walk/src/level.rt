@@ -9,7 +9,7 @@ use sheet::limits::{MOST_NODES, MOST_POSITIONS, MOST_POWER, ROW};
 use sheet::size::power;
 
 // words: the number of pending words. A node is a position times words, plus its pending word.
-#[derive(Drop)]
+#[derive(Clone, Copy)]
 pub struct Level {
     pub start: usize,
     pub actions: usize,

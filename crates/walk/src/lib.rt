@@ -1,3 +1,5 @@
 // The walk over one node's actions and moves. Public functions take any numbers: they test that the node exists.
+#![tactic(auto)]
+
 pub mod level; // the numbers of one delay
 pub mod walk; // which actions are spoilt, and whether all are

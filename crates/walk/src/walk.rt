@@ -19,7 +19,7 @@ use sheet::limits::{ABSENT, INDEX, ROW, ROWS};
 
 // What choosing an action at a node leads to: the oldest action is played and rest is pending after it; the environment's moves
 // are on the lines from first to end; blocked where the action is spoilt before it moves.
-#[derive(Drop)]
+#[derive(Clone, Copy)]
 pub struct Choice {
     pub blocked: bool,
     pub action: usize,
@@ -29,7 +29,7 @@ pub struct Choice {
 }
 
 // Where a search among lines stops: at a line, or with none found.
-#[derive(Drop)]
+#[derive(Clone, Copy)]
 enum Found {
     At(usize),
     Nowhere,

@@ -12,11 +12,11 @@ use Rattle.sheet.proofs.form.contents_ok.Goals as goal
 
 pub loop-k-preserved : goal.loop-k-preserved
 loop-k-preserved c = let turn = c.loop-k.invariant in (
-      search rules,
-      entries_again _ _ _ _ _ turn.1 c.if-letter-wanted.false turn.2 c.two_bytes-offset.ensures.0
-          c.if-offset-at.false,
-      place_again _ _ _ _ _ turn.2 c.two_bytes-at.ensures.0,
-    )
+  search rules,
+  entries_again _ _ _ _ _ turn.1 c.if-letter-wanted.false turn.2 c.two_bytes-offset.ensures.0
+      c.if-offset-at.false,
+  place_again _ _ _ _ _ turn.2 c.two_bytes-at.ensures.0,
+)
 
 pub returns-then-s-n : goal.returns-then-s-n
 returns-then-s-n c = search contents

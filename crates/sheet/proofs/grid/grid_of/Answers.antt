@@ -16,7 +16,7 @@ loop-k-preserved c =
     let action = c.wide-action.ensures.0 in (
       omega arith,
       elim c.if-action-lt-ROW.branch [
-          then-action-lt-ROW w ↦ w.grid-is ∙ grid_line _ _ _ _ _ turn.1 from.0 from.1 action w.if-action-lt-ROW.true
+        | then-action-lt-ROW w ↦ w.grid-is ∙ grid_line _ _ _ _ _ turn.1 from.0 from.1 action w.if-action-lt-ROW.true
         | else-action-lt-ROW w ↦ w.grid-is ∙ grid_skip _ _ _ _ _ turn.1 from.0 action w.if-action-lt-ROW.false
       ],
     )

@@ -1,0 +1,21 @@
+-- `hold` meets its contract. The rows of the positions passed are in place. Assumes nothing.
+use Prim.Native.Nat.{◌-◌, ◌≤◌}
+use mathlib.Core.Path.{◌≡◌}
+use lib.ListN.{length}
+use Rattle.theory.proofs.Filling.{filled}
+use Rattle.sheet.specs.Limits.{most_positions}
+use Rattle.gates.specs.code.Held.{row_held_at}
+use Rattle.gates.proofs.HoldLaws.{holding}
+use Rattle.gates.proofs.hold.hold.Goals as goal
+
+pub loop-q-init : goal.loop-q-init
+loop-q-init c = search holding
+
+pub held_row-requires : goal.held_row-requires
+held_row-requires c = search holding
+
+pub loop-q-preserved : goal.loop-q-preserved
+loop-q-preserved c = search holding
+
+pub returns : goal.returns
+returns c = search holding

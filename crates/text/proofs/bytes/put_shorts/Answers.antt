@@ -1,0 +1,18 @@
+-- `put_shorts` meets its contract: what is left to write at the head of its loop gives the whole. Assumes nothing.
+use borrow.Author.Rules.{rules}
+use Prim.Native.Nat.{◌-◌}
+use mathlib.Core.Path.{◌≡◌}
+use lib.ListN.{length}
+use Rattle.text.proofs.Page.{begins, goes_on, ends, Along}
+use Rattle.text.specs.Numbers.{short_at, shorts_text}
+use Rattle.text.proofs.bytes.put_shorts.Goals as goal
+
+pub returns : goal.returns
+unfolding shorts_text
+returns c = search ends
+
+pub loop-k-init : goal.loop-k-init
+loop-k-init c = search begins
+
+pub loop-k-preserved : goal.loop-k-preserved
+loop-k-preserved c = search goes_on

@@ -1,0 +1,18 @@
+-- `put_starts` meets its contract: what is left to write at the head of its loop gives the whole. Assumes nothing.
+use Prim.Native.Nat.{◌-◌}
+use mathlib.Core.Path.{◌≡◌}
+use Rattle.text.proofs.Page.{begins, goes_on, ends, Along}
+use lib.ListN.{length}
+use Rattle.text.specs.Lines.{start_at, start_lines}
+use borrow.Author.Rules.{rules}
+use Rattle.text.proofs.listing.put_starts.Goals as goal
+
+pub returns : goal.returns
+unfolding start_lines
+returns c = search ends
+
+pub loop-k-init : goal.loop-k-init
+loop-k-init c = search begins
+
+pub loop-k-preserved : goal.loop-k-preserved
+loop-k-preserved c = search goes_on
