@@ -6,24 +6,27 @@ use borrow.Author.Rules.{rules}
 use Rattle.walk.specs.code.Levels.{arena_of}
 use Rattle.region.proofs.MaskLaws.{allowed_below, bits, bits_set, bits_kept, bit_next}
 use Rattle.region.proofs.masks.allowed.Goals as goal
+use Rattle.region.proofs.masks.allowed.Goals.{then-not-spoilt, else-not-spoilt}
+use mathlib.Core.Path.{ap}
+use mathlib.Core.Bool.{not}
 
 pub loop-c-preserved : goal.loop-c-preserved
 loop-c-preserved c = let l = c.loop-c in
     let i = c.requires in
     let a = c.loop-c-test.true in
     let r = c.spoilt.ensures in
-    ⊎_elim
-    (λ w. (
-      search rules,
-      bits_set _ _ _ _ _ _ _ _ l.c i.0 i.1 a w.1 l.invariant.1 l.invariant.2 r w.0.taken,
-      bit_next l.c l.invariant.2,
-    ))
-    (λ w. (
-      search rules,
-      bits_kept _ _ _ _ _ _ _ _ l.c i.0 i.1 a w.1 l.invariant.1 r w.0.left,
-      bit_next l.c l.invariant.2,
-    ))
-    c.if-not-spoilt.branch
+    elim c.if-not-spoilt.branch [
+        then-not-spoilt w ↦ (
+          search rules,
+          bits_set _ _ _ _ _ _ _ _ l.c i.0 i.1 a w.mask-is l.invariant.1 l.invariant.2 r (ap not w.if-not-spoilt.true),
+          bit_next l.c l.invariant.2,
+        )
+      | else-not-spoilt w ↦ (
+          search rules,
+          bits_kept _ _ _ _ _ _ _ _ l.c i.0 i.1 a w.mask-is l.invariant.1 r (ap not w.if-not-spoilt.false),
+          bit_next l.c l.invariant.2,
+        )
+    ]
 
 pub loop-c-init : goal.loop-c-init
 loop-c-init c = search bits
@@ -33,3 +36,9 @@ spoilt-requires c = search bits
 
 pub returns : goal.returns
 returns c = search bits
+
+pub overflow_add-mask : goal.overflow_add-mask
+overflow_add-mask c = search bits
+
+pub overflow_cast-result : goal.overflow_cast-result
+overflow_cast-result c = search bits

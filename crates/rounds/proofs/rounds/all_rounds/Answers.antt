@@ -23,3 +23,6 @@ loop-level-preserved c = search all_rounds
 
 pub returns : goal.returns
 returns c = search all_rounds
+
+pub loop-level-smaller : goal.loop-level-smaller
+loop-level-smaller c = search all_rounds

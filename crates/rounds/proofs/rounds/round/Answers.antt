@@ -11,9 +11,29 @@ use Rattle.rounds.specs.code.Falling.{falls_next}
 use Rattle.theory.proofs.Filling.{filled}
 use Rattle.rounds.proofs.RoundLaws.{round_fell, round_kept, any_fell, any_kept, rounding}
 use Rattle.rounds.proofs.rounds.round.Goals as goal
+use Rattle.rounds.proofs.rounds.round.Goals.{then-falls_now, else-falls_now}
 
 pub loop-k-preserved : goal.loop-k-preserved
-loop-k-preserved c = ? -- let i = c.before.before.before.before.before.before.before.before.requires in let v = c.before.before.before.before.loop.invariant in let r = c.before.falls-now.ensures in ⊎_elim (λ w. ( v.0, omega arith, ap length w.1 ∙ simp length-set v.2, w.1 ∙ round_fell _ _ _ _ i.2 i.3 v.3 r w.0.taken (omega arith), w.2 ∙ any_fell _ _ _ _ i.2 i.3 v.3 r w.0.taken, )) (λ w. ( v.0, omega arith, ap length w.1 ∙ v.2, w.1 ∙ round_kept _ _ _ _ i.2 i.3 v.3 r w.0.left (omega arith), w.2 ∙ any_kept _ _ _ _ i.2 i.3 v.3 r v.4 w.0.left, )) c.if1.branch
+loop-k-preserved c =
+    let i = c.requires in
+    let v = c.loop-k.invariant in
+    let r = c.falls_now.ensures in
+    elim c.if-falls_now.branch [
+        then-falls_now w ↦ (
+          v.0,
+          omega arith,
+          ap length w.ranks-is ∙ simp length-set v.2,
+          w.ranks-is ∙ round_fell _ _ _ _ i.2 i.3 v.3 r w.if-falls_now.true (omega arith),
+          w.any-is ∙ any_fell _ _ _ _ i.2 i.3 v.3 r w.if-falls_now.true,
+        )
+      | else-falls_now w ↦ (
+          v.0,
+          omega arith,
+          ap length w.ranks-is ∙ v.2,
+          w.ranks-is ∙ round_kept _ _ _ _ i.2 i.3 v.3 r w.if-falls_now.false (omega arith),
+          w.any-is ∙ any_kept _ _ _ _ i.2 i.3 v.3 r v.4 w.if-falls_now.false,
+        )
+    ]
 
 pub loop-k-init : goal.loop-k-init
 loop-k-init c = search rounding

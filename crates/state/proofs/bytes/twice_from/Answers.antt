@@ -7,3 +7,6 @@ turn_from-requires c = search reads
 
 pub returns : goal.returns
 returns c = search reads
+
+pub overflow_mul-result : goal.overflow_mul-result
+overflow_mul-result c = search reads

@@ -1,0 +1,163 @@
+-- `first_row` meets its contract. The nodes passed are placed. Assumes nothing.
+use Prim.Native.Nat.{◌+◌, ◌-◌, ◌*◌, ◌≤◌}
+use mathlib.Core.Path.{◌≡◌, sym, ◌∙◌, ap}
+use native.Mathlib.Omega.{arith}
+use lib.ListN.{length}
+use borrow.Author.Rules.{rules}
+use Rattle.solver.specs.code.Work.{work}
+use Rattle.solver.specs.code.First.{Placed}
+use mathlib.Core.Logic.{⊎_elim}
+use Rattle.solver.proofs.FirstLaws.{row_node, row_le, tail_le, row_start, row_done, row_falls_lem, row_stands}
+use Rattle.solver.proofs.first.first_row.Goals as goal
+
+pub overflow_mul-start : goal.overflow_mul-start
+overflow_mul-start c = let p = c.requires in record { fits = omega (arith, row_le _ _ p.0 _ 0 p.1 (omega arith)) }
+
+pub loop-i-init : goal.loop-i-init
+loop-i-init c = (omega arith, row_start c.requires.2)
+
+pub overflow_add-k : goal.overflow_add-k
+overflow_add-k c = let p = c.requires in
+    let l = c.loop-i in
+    let t = c.loop-i-test.true in
+    let k = row_node _ _ p.0 _ l.i p.1 t in
+    let s = p.0.few_nodes in
+    let v = l.invariant.1 in
+    let z = tail_le _ _ _ _ _ v k in
+    let a = v.ranks_size in
+    let b = v.masks_size in
+    let d = v.queue_size in
+    record { fits = omega arith }
+
+pub bounds-masks-k : goal.bounds-masks-k
+bounds-masks-k c = let p = c.requires in
+    let l = c.loop-i in
+    let t = c.loop-i-test.true in
+    let k = row_node _ _ p.0 _ l.i p.1 t in
+    let s = p.0.few_nodes in
+    let v = l.invariant.1 in
+    let z = tail_le _ _ _ _ _ v k in
+    let a = v.ranks_size in
+    let b = v.masks_size in
+    let d = v.queue_size in
+    omega arith
+
+pub offset_bounds-ranks-k : goal.offset_bounds-ranks-k
+offset_bounds-ranks-k c = let p = c.requires in
+    let l = c.loop-i in
+    let t = c.loop-i-test.true in
+    let k = row_node _ _ p.0 _ l.i p.1 t in
+    let s = p.0.few_nodes in
+    let v = l.invariant.1 in
+    let z = tail_le _ _ _ _ _ v k in
+    let a = v.ranks_size in
+    let b = v.masks_size in
+    let d = v.queue_size in
+    record { fits = omega arith }
+
+pub bounds-ranks-k : goal.bounds-ranks-k
+bounds-ranks-k c = let p = c.requires in
+    let l = c.loop-i in
+    let t = c.loop-i-test.true in
+    let k = row_node _ _ p.0 _ l.i p.1 t in
+    let s = p.0.few_nodes in
+    let v = l.invariant.1 in
+    let z = tail_le _ _ _ _ _ v k in
+    let a = v.ranks_size in
+    let b = v.masks_size in
+    let d = v.queue_size in
+    omega arith
+
+pub overflow_cast-queue : goal.overflow_cast-queue
+overflow_cast-queue c = let p = c.requires in
+    let l = c.loop-i in
+    let t = c.loop-i-test.true in
+    let k = row_node _ _ p.0 _ l.i p.1 t in
+    let s = p.0.few_nodes in
+    let v = l.invariant.1 in
+    let z = tail_le _ _ _ _ _ v k in
+    let a = v.ranks_size in
+    let b = v.masks_size in
+    let d = v.queue_size in
+    record { fits = omega arith }
+
+pub offset_bounds-queue-last : goal.offset_bounds-queue-last
+offset_bounds-queue-last c = let p = c.requires in
+    let l = c.loop-i in
+    let t = c.loop-i-test.true in
+    let k = row_node _ _ p.0 _ l.i p.1 t in
+    let s = p.0.few_nodes in
+    let v = l.invariant.1 in
+    let z = tail_le _ _ _ _ _ v k in
+    let a = v.ranks_size in
+    let b = v.masks_size in
+    let d = v.queue_size in
+    record { fits = omega arith }
+
+pub bounds-queue-last : goal.bounds-queue-last
+bounds-queue-last c = let p = c.requires in
+    let l = c.loop-i in
+    let t = c.loop-i-test.true in
+    let k = row_node _ _ p.0 _ l.i p.1 t in
+    let s = p.0.few_nodes in
+    let v = l.invariant.1 in
+    let z = tail_le _ _ _ _ _ v k in
+    let a = v.ranks_size in
+    let b = v.masks_size in
+    let d = v.queue_size in
+    omega arith
+
+pub overflow_add-last : goal.overflow_add-last
+overflow_add-last c = let p = c.requires in
+    let l = c.loop-i in
+    let t = c.loop-i-test.true in
+    let k = row_node _ _ p.0 _ l.i p.1 t in
+    let s = p.0.few_nodes in
+    let v = l.invariant.1 in
+    let z = tail_le _ _ _ _ _ v k in
+    let a = v.ranks_size in
+    let b = v.masks_size in
+    let d = v.queue_size in
+    record { fits = omega arith }
+
+pub offset_bounds-ranks-k-else-falls : goal.offset_bounds-ranks-k-else-falls
+offset_bounds-ranks-k-else-falls c = let p = c.requires in
+    let l = c.loop-i in
+    let t = c.loop-i-test.true in
+    let k = row_node _ _ p.0 _ l.i p.1 t in
+    let s = p.0.few_nodes in
+    let v = l.invariant.1 in
+    let z = tail_le _ _ _ _ _ v k in
+    let a = v.ranks_size in
+    let b = v.masks_size in
+    let d = v.queue_size in
+    record { fits = omega arith }
+
+pub bounds-ranks-k-else-falls : goal.bounds-ranks-k-else-falls
+bounds-ranks-k-else-falls c = let p = c.requires in
+    let l = c.loop-i in
+    let t = c.loop-i-test.true in
+    let k = row_node _ _ p.0 _ l.i p.1 t in
+    let s = p.0.few_nodes in
+    let v = l.invariant.1 in
+    let z = tail_le _ _ _ _ _ v k in
+    let a = v.ranks_size in
+    let b = v.masks_size in
+    let d = v.queue_size in
+    omega arith
+
+pub loop-i-preserved : goal.loop-i-preserved
+loop-i-preserved c = let p = c.requires in
+    let l = c.loop-i in
+    let t = c.loop-i-test.true in
+    let e = c.row_falls-falls.ensures in
+    let m = c.row_mask-mask.ensures in
+    ⊎_elim
+    (λ w. (omega arith, rw (w.1, w.2, w.3) (row_falls_lem _ _ _ _ l.i _ p.0 p.1 t l.invariant.1 e m w.0.taken)))
+    (λ w. (omega arith, rw (w.1, w.2, w.3) (row_stands _ _ _ _ l.i _ p.0 p.1 t l.invariant.1 e m w.0.left)))
+    c.if-falls.branch
+
+pub returns : goal.returns
+returns c = let l = c.loop-i in
+    let t = c.loop-i-test.false in
+    row_done _ _ _ l.invariant.0 t l.invariant.1

@@ -1,0 +1,29 @@
+-- `link_lines` meets its contract. The lines passed are linked. Assumes nothing.
+use Prim.Native.Nat.{◌-◌, ◌≤◌}
+use mathlib.Core.Path.{◌≡◌}
+use native.Mathlib.Omega.{arith}
+use lib.ListN.{length}
+use borrow.Author.Rules.{rules}
+use Rattle.sheet.specs.code.Arrays.{to_at, line_count}
+use Rattle.solver.specs.code.Chains.{Linked}
+use Rattle.solver.proofs.ChainLaws.{linked_again, linked_done, to_key}
+use Rattle.solver.proofs.index.link_lines.Goals as goal
+
+pub loop-i-preserved : goal.loop-i-preserved
+loop-i-preserved c = (
+  search rules,
+  search rules,
+  search rules,
+  (let l = c.loop-i in
+      let n = c.line_count-n.ensures in
+      let t = c.loop-i-test.true in
+      let p = c.requires.1 in
+      let e = l.invariant.2 in
+      linked_again _ l.i l.invariant.3 (omega arith) (to_key _ _ c.wide-x.ensures.0 c.byte.ensures) c.link.ensures),
+)
+
+pub returns : goal.returns
+returns c = let l = c.loop-i in
+    let n = c.line_count-n.ensures in
+    let t = c.loop-i-test.false in
+    linked_done _ l.i _ l.invariant.3 l.invariant.0 (omega arith)

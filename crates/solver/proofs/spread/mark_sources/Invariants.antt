@@ -1,0 +1,22 @@
+-- `mark_sources` meets its contract. What is to be marked from here on is all that was to be marked. Assumes nothing.
+use Prim.Native.Nat.{◌≤◌}
+use mathlib.Core.Path.{◌≡◌, sym, ◌∙◌}
+use native.Mathlib.Omega.{arith}
+use lib.ListN.{length}
+use borrow.Author.Rules.{rules}
+use Rattle.sheet.specs.Limits.{most_moves}
+use Rattle.solver.specs.code.Work.{work, marks_to}
+use Rattle.solver.specs.code.Spread.{sources}
+use Rattle.solver.proofs.SpreadLaws.{link_less, sources_next, sources_end}
+use Rattle.solver.proofs.spread.mark_sources.Given as goal
+
+abbrev pub invariant-loop-e : goal.invariant-loop-e
+invariant-loop-e l = (l.e ≤ most_moves)
+    × (length l.ranks ≡ length l.initial.ranks)
+    × (length l.masks ≡ length l.initial.masks)
+    × (length l.queue ≡ length l.initial.queue)
+    × (marks_to l.spot.n l.spot.action (work l.initial.ranks l.initial.masks l.initial.queue l.initial.end) (sources l.u l.lines l.spot l.word l.initial.e)
+    ≡ marks_to l.spot.n l.spot.action (work l.ranks l.masks l.queue l.end) (sources l.u l.lines l.spot l.word l.e))
+
+abbrev pub decreases-loop-e : goal.decreases-loop-e
+decreases-loop-e l = l.e

@@ -1,0 +1,24 @@
+-- `all_rounds` meets its contract. The nodes of rank n are to be swept, and each sweep that is not the last has more nodes fallen. Assumes nothing.
+use Prim.Native.Nat.{◌-◌}
+use mathlib.Core.Path.{◌≡◌, sym, ◌∙◌, ap}
+use native.Mathlib.Omega.{arith}
+use lib.ListN.{length}
+use borrow.Author.Rules.{rules}
+use Rattle.walk.specs.code.Levels.{arena_of}
+use Rattle.solver.specs.code.Work.{work}
+use Rattle.solver.specs.code.Seen.{Seen}
+use Rattle.solver.proofs.SeenLaws.{seen_none}
+use Rattle.solver.proofs.WorkLaws.{Rounding, start_lent, start_rounds, round_lent, round_queue, round_few, round_more, round_next, round_over}
+use Rattle.solver.proofs.WorkLaws.{next_inside, next_ranks_lem, next_masks, next_queue}
+use Rattle.solver.proofs.work.all_rounds.Given as goal
+
+abbrev pub invariant-loop-hi : goal.invariant-loop-hi
+invariant-loop-hi l = (length l.seen ≡ length l.initial.seen)
+    × (length l.ranks ≡ length l.initial.ranks)
+    × (length l.masks ≡ length l.initial.masks)
+    × (length l.queue ≡ length l.initial.queue)
+    × Rounding (arena_of l.p l.grid l.u l.firsts l.level) l.n l.lo l.hi (work l.ranks l.masks l.queue l.tail)
+    × Seen l.leading l.cells l.level.words l.younger l.level.actions l.seen l.masks
+
+abbrev pub decreases-loop-hi : goal.decreases-loop-hi
+decreases-loop-hi l = l.level.nodes - l.hi
