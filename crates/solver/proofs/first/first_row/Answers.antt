@@ -9,6 +9,7 @@ use Rattle.solver.specs.code.First.{Placed}
 use mathlib.Core.Logic.{⊎_elim}
 use Rattle.solver.proofs.FirstLaws.{row_node, row_le, tail_le, row_start, row_done, row_falls_lem, row_stands}
 use Rattle.solver.proofs.first.first_row.Goals as goal
+use Rattle.solver.proofs.first.first_row.Goals.{then-falls, else-falls}
 
 pub overflow_mul-start : goal.overflow_mul-start
 overflow_mul-start c = let p = c.requires in record { fits = omega (arith, row_le _ _ p.0 _ 0 p.1 (omega arith)) }
@@ -152,10 +153,16 @@ loop-i-preserved c = let p = c.requires in
     let t = c.loop-i-test.true in
     let e = c.row_falls-falls.ensures in
     let m = c.row_mask-mask.ensures in
-    ⊎_elim
-    (λ w. (omega arith, rw (w.1, w.2, w.3) (row_falls_lem _ _ _ _ l.i _ p.0 p.1 t l.invariant.1 e m w.0.taken)))
-    (λ w. (omega arith, rw (w.1, w.2, w.3) (row_stands _ _ _ _ l.i _ p.0 p.1 t l.invariant.1 e m w.0.left)))
-    c.if-falls.branch
+    elim c.if-falls.branch [
+        then-falls w ↦ (
+          omega arith,
+          rw (w.ranks-is, w.queue-is, w.last-is) (row_falls_lem _ _ _ _ l.i _ p.0 p.1 t l.invariant.1 e m w.if-falls.true),
+        )
+      | else-falls w ↦ (
+          omega arith,
+          rw (w.ranks-is, w.queue-is, w.last-is) (row_stands _ _ _ _ l.i _ p.0 p.1 t l.invariant.1 e m w.if-falls.false),
+        )
+    ]
 
 pub returns : goal.returns
 returns c = let l = c.loop-i in

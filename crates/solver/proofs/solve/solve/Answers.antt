@@ -3,12 +3,16 @@ use Rattle.solver.proofs.SolveLaws.{solving, solves_won, solves_lost}
 use Rattle.solver.proofs.solve.solve.Goals as goal
 
 pub returns-then-stop : goal.returns-then-stop
-returns-then-stop c = solves_won _ _ c.read-reading.ensures _ c.reading-1.given.1 _ c.part-p.ensures _ c.level_at-level.ensures _ _
-    c.if-masks-level.false c.if-ranks-level.false _ _ c.grid_at-grid.ensures c.part.ensures _ _ _ c.fill-stop.ensures c.if-stop.true
+returns-then-stop c =
+    let w = solves_won _ _ c.read-reading.ensures _ c.in-Accepted.is _ c.part-p.ensures _ c.level_at-level.ensures _ _
+    c.if-masks-level.false c.if-ranks-level.false _ _ c.grid_at-grid.ensures c.part.ensures _ _ _ c.fill-stop.ensures c.if-stop.true in
+    record { answer = w.0; masks = w.1.0; ranks = w.1.1 }
 
 pub returns : goal.returns
-returns c = solves_lost _ _ c.read-reading.ensures _ c.reading-1.given.1 _ c.part-p.ensures _ c.level_at-level.ensures _ _
-    c.if-masks-level.false c.if-ranks-level.false _ _ c.grid_at-grid.ensures c.part.ensures _ _ _ c.fill-stop.ensures c.if-stop.false
+returns c =
+    let w = solves_lost _ _ c.read-reading.ensures _ c.in-Accepted.is _ c.part-p.ensures _ c.level_at-level.ensures _ _
+    c.if-masks-level.false c.if-ranks-level.false _ _ c.grid_at-grid.ensures c.part.ensures _ _ _ c.fill-stop.ensures c.if-stop.false in
+    record { answer = w.0; masks = w.1.0; ranks = w.1.1 }
 
 pub read-reading-requires : goal.read-reading-requires
 read-reading-requires c = search solving

@@ -10,16 +10,23 @@ pub overflow_add-s : goal.overflow_add-s
 overflow_add-s c = let p = c.requires in place_fits _ p.1 _ p.3
 
 pub returns-then-byte-ne0 : goal.returns-then-byte-ne0
-returns-then-byte-ne0 c = ? -- let p = c.before.before.before.before.before.before.before.before.before.requires in (seen_quiet _ _ _ p.1 _ _ _ _ p.4 c.before.byte.ensures c.if1.true, p.4)
+returns-then-byte-ne0 c = let p = c.requires in (seen_quiet _ _ _ p.1 _ _ _ _ p.4 c.byte.ensures c.if-byte-ne0.true, p.4)
 
 pub mark_callers-end-requires : goal.mark_callers-end-requires
-mark_callers-end-requires c = ? -- let b10 = c.before.before.before.before.before.before.before.before.before.before in let p = b10.before.before.before.requires in (search rules, p.1, p.2.down, rw c.head.ensures (p.2.head _))
+mark_callers-end-requires c = let p = c.requires in
+    (search rules, p.1, p.2.down, rw c.head.ensures (p.2.head _))
 
 pub returns-then-queue-end : goal.returns-then-queue-end
-returns-then-queue-end c = ? -- let b7 = c.before.before.before.before.before.before.before in let b10 = c.before.before.before.before.before.before.before.before.before.before in let b20 = b10.before.before.before.before.before.before.before.before.before.before in let p = b20.before.requires in let e = called _ _ _ p.1 _ _ _ b7.before.head.ensures b7.mark-callers.ensures in (e, seen_kept _ _ _ _ _ _ _ _ _ _ e p.4)
+returns-then-queue-end c = let p = c.requires in
+    let e = called _ _ _ p.1 _ _ _ c.head.ensures c.mark_callers-end.ensures in
+    (e, seen_kept _ _ _ _ _ _ _ _ _ _ e p.4)
 
 pub returns-then-seen-s : goal.returns-then-seen-s
-returns-then-seen-s c = ? -- let b8 = c.before.before.before.before.before.before.before.before in let b10 = c.before.before.before.before.before.before.before.before.before.before in let b20 = b10.before.before.before.before.before.before.before.before.before.before in let p = b20.before.before.requires in let e = called _ _ _ p.1 _ _ _ b8.before.head.ensures b8.mark-callers.ensures in (e, seen_kept _ _ _ _ _ _ _ _ _ _ e p.4)
+returns-then-seen-s c = let p = c.requires in
+    let e = called _ _ _ p.1 _ _ _ c.head.ensures c.mark_callers-end.ensures in
+    (e, seen_kept _ _ _ _ _ _ _ _ _ _ e p.4)
 
 pub returns : goal.returns
-returns c = ? -- let b8 = c.before.before.before.before.before.before.before.before in let b10 = c.before.before.before.before.before.before.before.before.before.before in let b20 = b10.before.before.before.before.before.before.before.before.before.before in let p = b20.before.before.requires in let e = called _ _ _ p.1 _ _ _ b8.before.head.ensures b8.mark-callers.ensures in (e, seen_noted _ _ _ p.1 _ _ _ _ p.4 e c.before.if2.false c.if3.false)
+returns c = let p = c.requires in
+    let e = called _ _ _ p.1 _ _ _ c.head.ensures c.mark_callers-end.ensures in
+    (e, seen_noted _ _ _ p.1 _ _ _ _ p.4 e c.if-queue-end.false c.if-seen-s.false)

@@ -5,6 +5,9 @@ use Rattle.solver.proofs.SeenLaws.{seen_kept, seen_spot, seen_level}
 use Rattle.solver.proofs.SweepLaws.{some_word, spread_odd_is, spread_even_is}
 use Rattle.solver.proofs.sweep.spread.Goals as goal
 
+pub nonzero_div-q : goal.nonzero_div-q
+nonzero_div-q c = omega (arith, some_word _ _ c.requires.1)
+
 pub spread_odd-requires : goal.spread_odd-requires
 spread_odd-requires c = let p = c.requires in
     let s = c.spot_at-spot.ensures in
