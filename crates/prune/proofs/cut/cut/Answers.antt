@@ -16,3 +16,6 @@ leave-requires c = search cutting
 
 pub returns : goal.returns
 returns c = search cutting
+
+pub overflow_cast-rest : goal.overflow_cast-rest
+overflow_cast-rest c = search cutting

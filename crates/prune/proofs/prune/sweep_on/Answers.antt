@@ -11,7 +11,7 @@ drain-requires c = let p = c.requires in
 
 pub returns : goal.returns
 returns c = let p = c.requires in
-    sweep_drained _ _ _ _ _ p.0 p.3 c.sweep-swept.ensures (ap not c.if-not-swept.false) c.drain.ensures
+    sweep_drained _ _ _ _ _ p.0 p.3 c.sweep-swept.ensures c.if-not-swept.false c.drain.ensures
 
 pub sweep-swept-requires : goal.sweep-swept-requires
 sweep-swept-requires c = search sweeping_on
