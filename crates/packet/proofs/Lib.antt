@@ -2,5 +2,4 @@
 pub mod PacketBytes
 pub mod Rearranged
 pub mod WalkLaws
-pub mod Returned
 pub mod ToldLaws

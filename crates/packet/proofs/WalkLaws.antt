@@ -62,6 +62,13 @@ walked_few n =
     (λ (h : n ≤ most_observations). omega (arith, walked_all n h))
     (below? most_observations n)
 
+pub walked_short : (n : ℕ) → walked_length n ≤ most_observations
+walked_short n =
+    ⊎_elim
+    (λ (h : most_observations < n). omega (arith, walked_none n h))
+    (λ (h : n ≤ most_observations). omega (arith, walked_all n h))
+    (below? most_observations n)
+
 -- before any record; y is the reading of the sheet t, z the state's bytes, m the number of records
 
 module _ (t : List ℕ) (y : TableReading) (ey : table_reading_means t y ≡ table_answer t) (z : List ℕ) (m : ℕ) where
