@@ -18,19 +18,20 @@ use Rattle.maker.proofs.RoomLaws.{Says, short_says}
 
 -- the contract for an answer, the number k that it hands on, and what the buffers hold after it; solving leaves M₂ and R₂ in them
 abbrev pub Meets : ℕ → Answer Made → Answer Measured → List ℕ → List ℕ → List ℕ → List ℕ → List ℕ → List ℕ → List ℕ → List ℕ → Type 0
-Meets k a r M M₂ M' R R₂ R' O O' = (r ≡ measured k a) × ((M' ≡ if_made a M M₂) × ((R' ≡ if_made a R R₂) × (O' ≡ output_after a O)))
+Meets k a r M M₂ M' R R₂ R' O O' =
+    record { answer : r ≡ measured k a; masks : M' ≡ if_made a M M₂; ranks : R' ≡ if_made a R R₂; output : O' ≡ output_after a O }
 
 -- a refusal alters nothing
 pub refuses : (k : ℕ) (a : Answer Made) (n : ℕ) → a ≡ refused n → (x : ℕ) → x ≡ n → (M M₂ R R₂ O : List ℕ)
     → Meets k a (refused x) M M₂ M R R₂ R O O
 unfolding measured on_accepted if_made output_after
-refuses k a n e x f M M₂ R R₂ O = (rw (e, f), (rw e, (rw e, rw e)))
+refuses k a n e x f M M₂ R R₂ O = record { answer = rw (e, f); masks = rw e; ranks = rw e; output = rw e }
 
 -- where it was accepted, the buffers are as in solving
 pub accepts : (k : ℕ) (a : Answer Made) (y : Made) → a ≡ accepted y → (r : Answer Measured) (M M₂ M' R R₂ R' O O' : List ℕ)
     → r ≡ measured k a → M' ≡ M₂ → R' ≡ R₂ → O' ≡ output_after a O → Meets k a r M M₂ M' R R₂ R' O O'
 unfolding if_made
-accepts k a y e r M M₂ M' R R₂ R' O O' f g h i = (f, (g ∙ rw e, (h ∙ rw e, i)))
+accepts k a y e r M M₂ M' R R₂ R' O O' f g h i = record { answer = f; masks = g ∙ rw e; ranks = h ∙ rw e; output = i }
 
 -- y is the reader's answer
 module _ (s : List ℕ) (y : Reading) (ey : reading_means y ≡ read_answer s) where

@@ -101,9 +101,12 @@ module _ (s : List ℕ) (l : Layout) (M R O : List ℕ) (ready : Ready s l (leng
     -- the contract, for what the code answers
     abbrev pub Promised : Verdict → List ℕ → ℕ → Type 0
     Promised v O' n =
-        (accepted (record { verdict = v; size = n; reached = l.reached }) ≡ measured (reached G) (make_answer s (length M) (length R) (length O)))
-        × ((M' ≡ masks_left s (solve_answer s (length M) (length R)) M)
-        × ((R' ≡ ranks_left s (solve_answer s (length M) (length R)) R) × (O' ≡ output_after (make_answer s (length M) (length R) (length O)) O)))
+        record {
+          answer : accepted (record { verdict = v; size = n; reached = l.reached }) ≡ measured (reached G) (make_answer s (length M) (length R) (length O));
+          masks : M' ≡ masks_left s (solve_answer s (length M) (length R)) M;
+          ranks : R' ≡ ranks_left s (solve_answer s (length M) (length R)) R;
+          output : O' ≡ output_after (make_answer s (length M) (length R) (length O)) O;
+        }
 
     -- the sheet is written, n bytes of it, and the output is then O'
     makes : (v : Verdict) → answer G d ≡ v → (O' : List ℕ) (n : ℕ) → page O' n ≡ puts (page O 0) (bytes_in (made_of G d v))
@@ -112,11 +115,15 @@ module _ (s : List ℕ) (l : Layout) (M R O : List ℕ) (ready : Ready s l (leng
     makes v e O' n eo =
         let x = made_of G d v in
         let is : make_answer s (length M) (length R) (length O) ≡ accepted x = make_is ∙ ap (λ u. accepted (made_of G d u)) e in
-        let whole = eo ∙ written (bytes_in x) O (made_fits v e) in (
-          rw (is, (carries s l ready.reads).reached)
-              (ap (λ p. accepted (record { verdict = verdict_in x; size = p.at; reached = reached G })) whole ∙ ap accepted (sym (measure_is _ x))),
-          (em, (er, rw is (ap (λ p. p.bytes) whole ∙ sym (output_is x O)))),
-        )
+        let whole = eo ∙ written (bytes_in x) O (made_fits v e) in
+        record {
+          answer =
+              rw (is, (carries s l ready.reads).reached)
+              (ap (λ p. accepted (record { verdict = verdict_in x; size = p.at; reached = reached G })) whole ∙ ap accepted (sym (measure_is _ x)));
+          masks = em;
+          ranks = er;
+          output = rw is (ap (λ p. p.bytes) whole ∙ sym (output_is x O));
+        }
 
     -- winning
     module _ (x : Layout) (ex : y ≡ solution.Winning x) where

@@ -6,19 +6,19 @@ use Rattle.maker.proofs.AnswerLaws.{reads, refuses, accepts, reading_refused, re
 use Rattle.maker.proofs.making.make.Goals as goal
 
 pub returns-in_default : goal.returns-in_default
-returns-in_default c = refuses _ _ _ (reading_refused _ _ c.read-reading.ensures _ _ _ _ c.enum_told-1.given.1) _
+returns-in_default c = refuses _ _ _ (reading_refused _ _ c.read-reading.ensures _ _ _ _ c.in_default.is) _
     c.refusal_number.ensures _ _ _ _ _
 
 pub returns-then-refused-ne0 : goal.returns-then-refused-ne0
 returns-then-refused-ne0 c = refuses _ _ _
-    ((read_says _ _ c.read-reading.ensures _ c.reading-1.given.1 _ _ _ _ c.short_buffer-refused.ensures).refuses c.if-refused-ne0.true) _
+    ((read_says _ _ c.read-reading.ensures _ c.in-Accepted.is _ _ _ _ c.short_buffer-refused.ensures).refuses c.if-refused-ne0.true) _
     refl _ _ _ _ _
 
 pub returns : goal.returns
 returns c = accepts _ _ _
     (make_is _ _ c.args.masks.now c.args.ranks.now c.args.out.now
-    ((read_says _ _ c.read-reading.ensures _ c.reading-1.given.1 _ _ _ _ c.short_buffer-refused.ensures).ready c.if-refused-ne0.false))
-    _ _ _ _ _ _ _ _ _ c.make_read.ensures.0 c.make_read.ensures.1.0 c.make_read.ensures.1.1.0 c.make_read.ensures.1.1.1
+    ((read_says _ _ c.read-reading.ensures _ c.in-Accepted.is _ _ _ _ c.short_buffer-refused.ensures).ready c.if-refused-ne0.false))
+    _ _ _ _ _ _ _ _ _ c.make_read.ensures.answer c.make_read.ensures.masks c.make_read.ensures.ranks c.make_read.ensures.output
 
 pub read-reading-requires : goal.read-reading-requires
 read-reading-requires c = search reads
