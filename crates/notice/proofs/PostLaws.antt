@@ -6,7 +6,7 @@ use mathlib.Core.List.{List, []}
 use mathlib.Core.Logic.{⊎_elim}
 use native.Mathlib.Omega.{arith}
 use lib.Dec.{eqb}
-use mir.Val.{TableFits as Word}
+use mir.Val.{Fits as Word}
 use mir.Syntax.{w64}
 use lib.ListN.{length, get_or, take, replicate, length-replicate}
 use lib.Seq.{ext_get_or, length-take-le}

@@ -1,0 +1,20 @@
+-- `keep_flags` meets its contract. Assumes nothing.
+use Prim.Native.Nat.{◌-◌, ◌≤◌}
+use mathlib.Core.Path.{◌≡◌}
+use lib.ListN.{length}
+use Rattle.theory.proofs.Filling.{filled}
+use Rattle.notice.specs.code.Left.{kept_flag_at}
+use Rattle.notice.proofs.WordLaws.{keeping}
+use Rattle.notice.proofs.flags.keep_flags.Goals as goal
+
+pub loop-v-init : goal.loop-v-init
+loop-v-init c = search keeping
+
+pub kept_flag-requires : goal.kept_flag-requires
+kept_flag-requires c = search keeping
+
+pub loop-v-preserved : goal.loop-v-preserved
+loop-v-preserved c = search keeping
+
+pub returns : goal.returns
+returns c = search keeping
