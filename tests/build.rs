@@ -1,4 +1,4 @@
-//! Links the static library that `rt staticlib capi` writes.
+//! Links the static library that `.ci/build` writes.
 use std::path::PathBuf;
 
 fn main() {

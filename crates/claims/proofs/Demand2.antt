@@ -9,8 +9,8 @@ use lib.ListN.{length, get_or}
 use borrow.Author.Tests.{le-leb}
 use Rattle.theory.specs.Answer.{accepted, on_accepted}
 use Rattle.theory.specs.Game.{Game, Legal}
-use Rattle.theory.specs.Rounds.{final_ranks, masks, kept}
-use Rattle.theory.specs.Delay.{losing, arena, answer}
+use Rattle.theory.specs.Rounds.{final_ranks, masks}
+use Rattle.theory.specs.Delay.{arena, answer}
 use Rattle.theory.specs.Table.{bit, allows, ours}
 use Rattle.theory.proofs.Fold.{both_true}
 use Rattle.theory.proofs.Answer.{check_passed}

@@ -5,7 +5,7 @@ use mathlib.Core.List.{List, Memᴰ}
 use Rattle.theory.specs.Answer.{accepted}
 use Rattle.theory.specs.Game.{Game, Target, to}
 use Rattle.theory.specs.Strategy.{Winnable}
-use Rattle.theory.specs.Rounds.{Closed, fell, ranks_after, final_ranks, masks, kept}
+use Rattle.theory.specs.Rounds.{Closed, fell, ranks_after, final_ranks, kept}
 use Rattle.theory.specs.Delay.{wins, losing, arena}
 use Rattle.theory.specs.Table.{bit}
 use Rattle.sheet.specs.Bodies.{delay_of}

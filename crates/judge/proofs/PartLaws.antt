@@ -16,7 +16,6 @@ use Rattle.theory.specs.Table.{Table, lacks, has, bit, allows, TableFits}
 use Rattle.theory.specs.Judging.{node_ok}
 use Rattle.theory.proofs.Fold.{bool, not_both, same_test, both_true, both_left, both_right, both_none}
 use Rattle.theory.proofs.Masks.{bits_ext, mask_lt, mask_bit, zero_bit}
-use Rattle.theory.proofs.Rounds.{unspoilt}
 use Rattle.theory.proofs.Tables.{has_mask, lacks_has, unspoilt_too}
 use Rattle.theory.proofs.Judging.{Stands, node_stands, stands_node}
 use Rattle.walk.specs.code.Walks.{fallen_by}

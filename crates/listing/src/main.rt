@@ -22,11 +22,15 @@ fn read_full(input: &mut impl Read, buffer: &mut [u8]) -> io::Result<usize>
     Ok(size)
 }
 
-// One byte more than is allowed is read, so that input that is too long is seen to be.
+// One byte more than is allowed is read, so that input that is too long is seen to be. That the lines could not be written is told on
+// standard error.
 fn main(rt: HostRuntime) -> io::Result<()> {
     let mut sheet = [0u8; MOST_INPUT + 1];
     let n = read_full(&mut rt.reader(), &mut sheet)?;
     let mut out = [0u8; MOST_TEXT];
     let size = list_into(&sheet[..n], &mut out);
-    rt.write_all(&out[..size])
+    if rt.write_all(&out[..size]).is_err() {
+        eprintln!(rt; "listing: the lines could not be written")?;
+    }
+    Ok(())
 }

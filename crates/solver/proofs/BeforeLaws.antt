@@ -1,7 +1,7 @@
 -- The nodes before a node (specs/Sweep.antt, nodes_before) are those of which it is an outcome. Assumes nothing.
-use Prim.Native.Nat.{ℕ, zero, suc, ◌+◌, ◌*◌, ◌/◌, ◌%◌, ◌≤◌, ◌<◌}
+use Prim.Native.Nat.{ℕ, ◌+◌, ◌*◌, ◌/◌, ◌%◌, ◌<◌}
 use mathlib.Core.Path.{◌≡◌, refl, sym, ◌∙◌, ap}
-use mathlib.Core.Bool.{Bool, true, false, cond}
+use mathlib.Core.Bool.{Bool, true, false}
 use mathlib.Core.Logic.{⊎_elim}
 use mathlib.Core.List.{List, [], ◌∷◌, ◌++◌, map, Memᴰ}
 use native.Mathlib.Omega.{arith}
@@ -9,11 +9,10 @@ use native.Mathlib.Nat.{mod-lt, div-add-mod', div-lt_iff_lt-mul, mul_comm, mul_a
 use lib.Arith.{digits_lt, digits_div, digits_mod}
 use lib.ListN.{get_or}
 use Rattle.theory.specs.Game.{Target, absent, to, Game, Legal}
-use Rattle.theory.specs.Rounds.{Arena, bad, spoilt_by}
+use Rattle.theory.specs.Rounds.{bad, spoilt_by}
 use Rattle.theory.specs.Delay.{with_word, moved_to, played_to, outcomes, step, arena_by}
 use Rattle.theory.proofs.Fold.{bool, any_of_holds}
-use Rattle.theory.proofs.Turns.{to_injective, absent_not_to, target_cases, played_node, played_move, played_absent}
-use Rattle.sheet.specs.Limits.{most_actions}
+use Rattle.theory.proofs.Turns.{to_injective, absent_not_to, played_move}
 use Rattle.solver.specs.declared.spread.Spot.{Spot}
 use Rattle.solver.specs.code.Chains.{chain, head_of}
 use Rattle.solver.specs.code.Spread.{caller_at, word_at, callers, source_at, sources, gather, even_nodes, odd_nodes}

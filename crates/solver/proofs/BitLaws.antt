@@ -1,5 +1,5 @@
 -- A bit that goes out of a mask. Assumes nothing.
-use Prim.Native.Nat.{ℕ, zero, suc, ◌+◌, ◌-◌, ◌*◌, ◌/◌, ◌%◌, ◌^◌, ◌≤◌, ◌<◌}
+use Prim.Native.Nat.{ℕ, zero, suc, ◌-◌, ◌/◌, ◌%◌, ◌^◌, ◌≤◌, ◌<◌}
 use mathlib.Core.Path.{◌≡◌, refl, sym, ◌∙◌, ap}
 use mathlib.Core.Bool.{true, false}
 use native.Mathlib.Omega.{arith}
@@ -7,7 +7,7 @@ use lib.Dec.{eqb}
 use borrow.Author.Tests.{ne_eqb}
 use Rattle.theory.specs.Table.{bit}
 use Rattle.theory.proofs.Fold.{not_both}
-use Rattle.theory.proofs.Masks.{bit_zero, bit_suc, low_true, low_false, zero_bit}
+use Rattle.theory.proofs.Masks.{bit_zero, bit_suc, low_true, zero_bit}
 
 -- a bit that is set is part of the mask
 pub bit_le : (m c : ℕ) → bit m c ≡ true → 2 ^ c ≤ m

@@ -1,23 +1,20 @@
 -- The code of src/block.rt, over the arena of the arrays. Assumes nothing.
-use Prim.Native.Nat.{ℕ, zero, suc, ◌+◌, ◌-◌, ◌*◌, ◌/◌, ◌%◌, ◌≤◌, ◌<◌}
+use Prim.Native.Nat.{ℕ, suc, ◌+◌, ◌-◌, ◌*◌, ◌/◌, ◌%◌, ◌≤◌, ◌<◌}
 use mathlib.Core.Path.{◌≡◌, refl, sym, ◌∙◌, ap}
 use mathlib.Core.Bool.{Bool, true, false, not}
-use mathlib.Core.Logic.{⊎_elim}
 use mathlib.Core.List.{List}
 use native.Mathlib.Omega.{arith}
-use native.Mathlib.Nat.{mul_comm, mul_assoc, mul-le-mul, mul-le-mul_right, suc-mul, div-lt_iff_lt-mul}
+use native.Mathlib.Nat.{mul_comm, mul_assoc, mul-le-mul, mul-le-mul_right, suc-mul}
 use mir.Val.{Fits}
 use mir.Syntax.{w64}
-use lib.Arith.{digits_lt}
-use lib.Dec.{ltb, leb}
 use lib.ListN.{length, get_or}
 use borrow.Author.Rules.{rules}
-use borrow.Author.Tests.{not-true, not-false, eqb-false, le-ltb, lt-ltb, ltb-true, leb-true}
-use Rattle.theory.specs.Fold.{both, any_of}
-use Rattle.theory.specs.Game.{Target, absent, to, Game}
+use borrow.Author.Tests.{not-true, not-false, ltb-true, leb-true}
+use Rattle.theory.specs.Fold.{any_of}
+use Rattle.theory.specs.Game.{Game}
 use Rattle.theory.specs.Rounds.{Arena, bad, spoilt_by}
-use Rattle.theory.specs.Delay.{on_right, played_to, outcomes, step, arena_by}
-use Rattle.theory.proofs.Fold.{bool, not_both, same_test, both_none, both_false, both_second, both_left, both_right}
+use Rattle.theory.specs.Delay.{on_right, step}
+use Rattle.theory.proofs.Fold.{not_both, same_test, both_none, both_false, both_second, both_left, both_right}
 use Rattle.sheet.specs.Kinds.{controller_at, safe_at}
 use Rattle.sheet.specs.code.Arrays.{view_of, target_at, unmark, absent_mark}
 use Rattle.sheet.proofs.GridLaws.{unmark_absent, unmark_to}

@@ -2,26 +2,26 @@
 -- Assumes nothing.
 use Prim.Native.Nat.{ℕ, zero, suc, ◌+◌, ◌-◌, ◌*◌, ◌/◌, ◌%◌, ◌≤◌, ◌<◌}
 use mathlib.Core.Path.{◌≡◌, refl, sym, ◌∙◌, ap}
-use mathlib.Core.Bool.{Bool, true, false, not, cond}
+use mathlib.Core.Bool.{Bool, true, false, not}
 use mathlib.Core.Logic.{⊎_elim}
 use mathlib.Core.List.{List, [], ◌∷◌, map, Memᴰ}
 use native.Mathlib.Omega.{arith}
 use native.Mathlib.Nat.{mod-lt, div-add-mod', div-lt_iff_lt-mul, mul_comm, mul_assoc, add-mul}
 use lib.Arith.{digits_div, digits_mod, digits_lt}
 use lib.ListN.{get_or}
-use Rattle.theory.specs.Fold.{both, any_of}
+use Rattle.theory.specs.Fold.{any_of}
 use Rattle.theory.specs.Game.{Target, absent, to, Game}
 use Rattle.theory.specs.Rounds.{Arena, bad, spoilt_by, fell, ranks_after}
 use Rattle.theory.specs.Delay.{on_right, with_word, moved_to, played_to, outcomes, step, arena_by}
 use Rattle.theory.specs.Table.{bit}
-use Rattle.theory.proofs.Fold.{bool, not_both, same?, below?, same_test, both_true, both_left, both_right, both_second, any_of_some, any_of_holds, any_of_fails}
-use Rattle.theory.proofs.Turns.{to_injective, absent_not_to, played_move, played_absent}
+use Rattle.theory.proofs.Fold.{bool, not_both, same?, below?, both_true, both_right, any_of_some, any_of_holds, any_of_fails}
+use Rattle.theory.proofs.Turns.{absent_not_to}
 use Rattle.theory.proofs.Masks.{zero_bit}
 use Rattle.solver.specs.code.Work.{Work, spoil_all_to, spoil_row_to}
 use Rattle.solver.specs.code.Block.{blocked_at, no_way, block_to, blocks_to}
-use Rattle.solver.proofs.StateLaws.{rank_of, mask_of, Fresh, Good, Went, Goes, goes_none, goes_on, spoil_all_goes}
+use Rattle.solver.proofs.StateLaws.{rank_of, mask_of, Fresh, Good, Goes, goes_none, goes_on, spoil_all_goes}
 use Rattle.solver.proofs.RoundLaws.{Marked}
-use Rattle.solver.proofs.BeforeLaws.{step_at, bad_absent, played_unsafe, rest_below}
+use Rattle.solver.proofs.BeforeLaws.{step_at, bad_absent, rest_below}
 use Rattle.solver.proofs.StartLaws.{first_rank_lem}
 
 -- every action spoilt at so many nodes, from k on

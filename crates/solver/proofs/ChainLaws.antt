@@ -1,7 +1,7 @@
 -- Chains visit exactly the places of their key. Assumes nothing.
-use Prim.Native.Nat.{ℕ, zero, suc, ◌+◌, ◌-◌, ◌*◌, ◌/◌, ◌%◌, ◌≤◌, ◌<◌}
+use Prim.Native.Nat.{ℕ, zero, suc, ◌+◌, ◌*◌, ◌/◌, ◌%◌, ◌≤◌, ◌<◌}
 use mathlib.Core.Path.{◌≡◌, refl, sym, ◌∙◌, ap}
-use mathlib.Core.Bool.{Bool, true, false, cond}
+use mathlib.Core.Bool.{true, false}
 use mathlib.Core.Logic.{⊎_elim}
 use mathlib.Core.List.{List, [], ◌∷◌, Memᴰ}
 use native.Mathlib.Omega.{arith}
@@ -14,7 +14,7 @@ use borrow.Author.Tests.{eq-eqb, ne_eqb, lt-ltb, le-ltb}
 use Rattle.theory.proofs.Fold.{bool, same?, below?}
 use Rattle.sheet.specs.Limits.{most_moves}
 use Rattle.solver.specs.code.Sizes.{most_cells}
-use Rattle.solver.specs.code.Chains.{last_of, chain_of, chain, head_of, Down, Chains, Linked, cell_key, Indexed}
+use Rattle.solver.specs.code.Chains.{last_of, chain_of, chain, head_of, Chains, Linked, cell_key, Indexed}
 use Rattle.theory.specs.Game.{absent, to}
 use Rattle.sheet.specs.code.Arrays.{index_entries, absent_mark, mark_of, unmark, target_at, to_at, line_count}
 use Rattle.sheet.proofs.GridLaws.{unmark_absent, unmark_to}

@@ -1,8 +1,8 @@
 -- Round 1 (src/first.rt), node by node. Assumes nothing.
-use Prim.Native.Nat.{ℕ, zero, suc, ◌+◌, ◌-◌, ◌*◌, ◌/◌, ◌≤◌, ◌<◌}
+use Prim.Native.Nat.{ℕ, suc, ◌+◌, ◌*◌, ◌/◌, ◌≤◌, ◌<◌}
 use mathlib.Core.Path.{◌≡◌, refl, sym, ◌∙◌, ap}
 use mathlib.Core.Bool.{Bool, true, false, not, cond}
-use mathlib.Core.Logic.{◌⊎◌, inl, inr, ⊎_elim}
+use mathlib.Core.Logic.{◌⊎◌, ⊎_elim}
 use mathlib.Core.List.{List}
 use native.Mathlib.Omega.{arith}
 use native.Mathlib.Nat.{mul-le-mul_right, suc-mul}
@@ -12,9 +12,8 @@ use lib.ListN.{length, get_or, set, length-set}
 use lib.Seq.{get_or-set_same, get_or-set_other}
 use borrow.Author.Rules.{rules}
 use borrow.Author.Tests.{not-true, not-false}
-use Rattle.theory.specs.Fold.{both}
 use Rattle.theory.specs.Delay.{on_right}
-use Rattle.theory.proofs.Fold.{bool, not_both, below_cases, both_none, both_second}
+use Rattle.theory.proofs.Fold.{not_both, below_cases, both_none, both_second}
 use Rattle.sheet.specs.Kinds.{controller_at, safe_at}
 use Rattle.walk.specs.declared.level.Level.{Level}
 use Rattle.walk.specs.code.Nodes.{Sized}

@@ -1,19 +1,19 @@
 -- The chains of the arrays' lines and cells are those of the game that the arrays hold. Assumes nothing.
 use Prim.Native.Nat.{ℕ, ◌+◌, ◌*◌, ◌/◌, ◌%◌, ◌≤◌, ◌<◌}
 use mathlib.Core.Path.{◌≡◌, refl, sym, ◌∙◌, ap}
-use mathlib.Core.Bool.{Bool, true, false}
+use mathlib.Core.Bool.{true, false}
 use mathlib.Core.Logic.{⊎_elim}
-use mathlib.Core.List.{List, [], Memᴰ}
+use mathlib.Core.List.{List}
 use native.Mathlib.Omega.{arith}
 use lib.Dec.{ltb}
-use lib.ListN.{length, get_or}
+use lib.ListN.{length}
 use borrow.Author.Tests.{ltb-true}
 use Rattle.theory.specs.Fold.{both}
 use Rattle.theory.specs.Game.{Target, absent, to, Game, Legal}
 use Rattle.theory.proofs.Fold.{bool, both_left, both_right}
-use Rattle.theory.proofs.Turns.{absent_not_to, target_cases, to_injective}
+use Rattle.theory.proofs.Turns.{absent_not_to}
 use Rattle.sheet.specs.Limits.{most_positions, most_actions}
-use Rattle.sheet.specs.code.Arrays.{view_of, target_at, unmark, mark_of, absent_mark, to_at, line_count}
+use Rattle.sheet.specs.code.Arrays.{view_of, target_at, mark_of, absent_mark, to_at, line_count}
 use Rattle.solver.specs.code.Sizes.{most_cells}
 use Rattle.solver.specs.code.Chains.{Linked, cell_key}
 use Rattle.solver.specs.code.Sweep.{index, Reverses}

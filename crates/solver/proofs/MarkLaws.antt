@@ -1,12 +1,11 @@
 -- What the code of src/mark.rt does is what the state's definitions say. Assumes nothing.
 use Prim.Native.Nat.{ℕ, suc, ◌+◌, ◌-◌, ◌*◌, ◌/◌, ◌%◌, ◌^◌, ◌≤◌, ◌<◌}
-use mathlib.Core.Path.{◌≡◌, refl, sym, ◌∙◌, ap}
+use mathlib.Core.Path.{◌≡◌, sym, ◌∙◌, ap}
 use mathlib.Core.Bool.{true, false}
 use mathlib.Core.List.{List}
 use mathlib.Core.Logic.{⊎_elim}
 use native.Mathlib.Omega.{arith}
 use native.Mathlib.Nat.{mod-eq_of_lt}
-use lib.Dec.{eqb, ltb}
 use lib.Pow.{pow_mono}
 use lib.ListN.{length, get_or, set, get_or-eq_default}
 use borrow.Author.Rules.{rules}

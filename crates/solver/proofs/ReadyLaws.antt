@@ -1,7 +1,7 @@
 -- The rounds by sweeps, over the arena of a game: what holds before a sweep holds after it for the next one, or all rounds are
 -- over. Assumes nothing.
 use Prim.Native.Nat.{ℕ, zero, suc, ◌+◌, ◌-◌, ◌*◌, ◌/◌, ◌%◌, ◌≤◌, ◌<◌}
-use mathlib.Core.Path.{◌≡◌, refl, sym, ◌∙◌, ap}
+use mathlib.Core.Path.{◌≡◌, ◌∙◌, ap}
 use mathlib.Core.Bool.{Bool, true, false}
 use mathlib.Core.Logic.{⊎_elim}
 use mathlib.Core.List.{List, Memᴰ}
@@ -18,8 +18,8 @@ use Rattle.theory.proofs.Rounds.{fell_true, fell_rank, fell_node, rank_le}
 use Rattle.walk.specs.declared.level.Level.{Level}
 use Rattle.solver.specs.declared.spread.Spot.{Spot}
 use Rattle.solver.specs.code.Work.{Work, marks_to}
-use Rattle.solver.specs.code.Sweep.{Index, Fitted, spot_at, nodes_before, spread_to, sweep_to, Reverses}
-use Rattle.solver.proofs.StateLaws.{rank_of, mask_of, entry_of, Fresh, Good, Went, Goes, goes_none, goes_on, marks_goes}
+use Rattle.solver.specs.code.Sweep.{Index, Fitted, nodes_before, spread_to, sweep_to, Reverses}
+use Rattle.solver.proofs.StateLaws.{rank_of, mask_of, entry_of, Fresh, Good, Goes, goes_none, goes_on, marks_goes}
 use Rattle.solver.proofs.RoundLaws.{Marked, marked_still, AllMarked, round_ranks, round_good, round_final, round_most, round_masks}
 use Rattle.solver.proofs.BeforeLaws.{last_below_lem, even_sound, odd_sound, even_cover, odd_cover, some_words}
 

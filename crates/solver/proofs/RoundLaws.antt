@@ -1,21 +1,20 @@
 -- A round that is worked to its end leaves the next round's ranks, and the last one leaves the final ranks and the masks.
 -- Assumes nothing.
-use Prim.Native.Nat.{ℕ, zero, suc, ◌+◌, ◌^◌, ◌≤◌, ◌<◌}
+use Prim.Native.Nat.{ℕ, suc, ◌≤◌, ◌<◌}
 use mathlib.Core.Path.{◌≡◌, sym, ◌∙◌, ap}
-use mathlib.Core.Bool.{true, false, not, cond}
-use mathlib.Core.Logic.{◌⊎◌, inl, inr, ⊎_elim}
+use mathlib.Core.Bool.{true, false, not}
+use mathlib.Core.Logic.{inl, ⊎_elim}
 use mathlib.Core.List.{List, Memᴰ}
 use native.Mathlib.Omega.{arith}
 use native.Mathlib.Numerals.{add-one}
 use lib.Pow.{pow_pos}
-use lib.ListN.{length, get_or}
+use lib.ListN.{get_or}
 use lib.Seq.{ext_get_or}
-use Rattle.theory.specs.Fold.{both, all_below, tabulate}
 use Rattle.theory.specs.Game.{Target, absent, to}
 use Rattle.theory.specs.Rounds.{Arena, bad, spoilt_by, fell, node_falls, rank_in, ranks_after, final_ranks, kept_by, mask_below, mask_at, masks_by, masks}
 use Rattle.theory.specs.Table.{bit}
-use Rattle.theory.proofs.Fold.{bool, not_both, below?, same_test, both_none, both_false, both_true, all_at, all_below_lem, any_of_some, length_tabulate, get_d_tabulate}
-use Rattle.theory.proofs.Rounds.{spoilt_more, fell_true, fell_false, fell_rank, stood_rank, in_fallen, in_fell, in_stands, length_after, rank_suc, rank_le, final_is}
+use Rattle.theory.proofs.Fold.{bool, not_both, both_none, both_false, both_true, all_at, all_below_lem, any_of_some, length_tabulate, get_d_tabulate}
+use Rattle.theory.proofs.Rounds.{spoilt_more, fell_true, fell_rank, stood_rank, in_fallen, in_fell, in_stands, length_after, rank_suc, rank_le, final_is}
 use Rattle.theory.proofs.Masks.{bits_ext, zero_bit, mask_lt, mask_bit}
 use Rattle.solver.specs.code.Work.{Work}
 use Rattle.solver.proofs.StateLaws.{rank_of, mask_of, Segment, Fresh, Good, Went}

@@ -1,17 +1,16 @@
 -- Bits only go out, so that a target and a word whose callers were marked need not be marked again. Assumes nothing.
-use Prim.Native.Nat.{ℕ, zero, suc, ◌+◌, ◌-◌, ◌*◌, ◌/◌, ◌%◌, ◌^◌, ◌≤◌, ◌<◌}
+use Prim.Native.Nat.{ℕ, ◌+◌, ◌-◌, ◌*◌, ◌/◌, ◌%◌, ◌^◌, ◌≤◌, ◌<◌}
 use mathlib.Core.Path.{◌≡◌, refl, sym, ◌∙◌, ap}
-use mathlib.Core.Bool.{Bool, true, false}
+use mathlib.Core.Bool.{true, false}
 use mathlib.Core.List.Memᴰ
 use mathlib.Core.List.{List, [], ◌∷◌, map, Memᴰ}
-use mathlib.Core.Logic.{◌⊎◌, inl, inr, ⊎_elim}
+use mathlib.Core.Logic.{⊎_elim}
 use native.Mathlib.Omega.{arith}
 use native.Mathlib.Nat.{mul-add-div_right, mul-add-mod_self_right, div-eq_of_lt, mod-eq_of_lt}
 use mir.Val.{Fits}
 use mir.Syntax.{w64}
 use lib.ListN.{length, get_or, set, length-set, take, get_or-eq_default}
 use lib.Seq.{get_or-set_same, get_or-set_other, get_or-take, length-take-le}
-use borrow.Author.Rules.{rules}
 use borrow.Author.Tests.{eq-eqb, ne_eqb, lt-ltb, le-ltb}
 use Rattle.theory.specs.Table.{bit}
 use Rattle.theory.proofs.Fold.{bool, not_both, below?, same?}
@@ -19,7 +18,7 @@ use Rattle.theory.proofs.Masks.{zero_bit}
 use Rattle.walk.specs.declared.level.Level.{Level}
 use Rattle.sheet.specs.Limits.{most_nodes}
 use Rattle.solver.specs.declared.spread.Spot.{Spot}
-use Rattle.solver.specs.code.Work.{Work, work, fall_to, leave_to, mark_to, marks_to}
+use Rattle.solver.specs.code.Work.{Work, fall_to, leave_to, mark_to, marks_to}
 use Rattle.solver.specs.code.Chains.{chain, head_of}
 use Rattle.solver.specs.code.Spread.{Spotted, caller_at, callers}
 use Rattle.solver.specs.code.Sweep.{Fitted, spot_at}

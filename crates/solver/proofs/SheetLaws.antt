@@ -1,6 +1,6 @@
 -- The lines of an accepted sheet's U body are its game's moves, and the levels of a sheet can be solved. Assumes nothing.
 use Prim.Native.Nat.{ℕ, zero, suc, ◌+◌, ◌-◌, ◌*◌, ◌/◌, ◌^◌, ◌≤◌, ◌<◌}
-use mathlib.Core.Path.{◌≡◌, refl, sym, ◌∙◌, ap}
+use mathlib.Core.Path.{◌≡◌, sym, ◌∙◌, ap}
 use mathlib.Core.Bool.{true, false}
 use mathlib.Core.Logic.{⊎_elim}
 use mathlib.Core.List.{List, Memᴰ}
@@ -22,7 +22,7 @@ use Rattle.walk.specs.code.Levels.{Room, level_at}
 use Rattle.walk.proofs.LevelLaws.{level_sized}
 use Rattle.solver.specs.code.Chains.{Indexed}
 use Rattle.solver.specs.code.Sweep.{Fitted}
-use Rattle.solver.specs.code.Working.{Workable, Lines, Levelable}
+use Rattle.solver.specs.code.Working.{Lines, Levelable}
 use Rattle.solver.proofs.IndexLaws.{index_reverses}
 
 -- a line is among its position's moves

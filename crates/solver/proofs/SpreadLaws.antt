@@ -2,17 +2,16 @@
 use Prim.Native.Nat.{ℕ, zero, suc, ◌+◌, ◌-◌, ◌*◌, ◌/◌, ◌%◌, ◌≤◌, ◌<◌}
 use mathlib.Core.Path.{◌≡◌, refl, sym, ◌∙◌, ap}
 use mathlib.Core.List.{List, [], ◌∷◌, ◌++◌, map, foldl, foldl-append}
-use mathlib.Core.Logic.{⊎_elim}
 use native.Mathlib.Omega.{arith}
-use native.Mathlib.Nat.{mul-le-mul, mod-lt}
+use native.Mathlib.Nat.{mul-le-mul}
 use mir.Val.{Fits}
 use mir.Syntax.{w64}
-use lib.ListN.{length, get_or}
+use lib.ListN.{get_or}
 use borrow.Author.Rules.{rules}
 use Rattle.sheet.specs.Limits.{most_nodes}
 use Rattle.solver.specs.declared.spread.Spot.{Spot}
 use Rattle.solver.specs.code.Sizes.{most_cells, word_bound}
-use Rattle.solver.specs.code.Work.{Work, work, Lent, mark_to, marks_to}
+use Rattle.solver.specs.code.Work.{Work, mark_to, marks_to}
 use Rattle.solver.specs.code.Chains.{chain, head_of, Down}
 use Rattle.solver.specs.code.Spread.{Spotted, caller_at, word_at, callers, source_at, sources, gather, even_nodes, odd_nodes}
 use Rattle.solver.proofs.ChainLaws.{chain_next, chain_end}

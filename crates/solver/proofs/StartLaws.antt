@@ -1,24 +1,24 @@
 -- Once round 1 is placed (specs/First.antt), the state is good for working round 2. Assumes nothing.
-use Prim.Native.Nat.{ℕ, zero, suc, ◌+◌, ◌-◌, ◌*◌, ◌/◌, ◌^◌, ◌≤◌, ◌<◌}
+use Prim.Native.Nat.{ℕ, zero, suc, ◌+◌, ◌-◌, ◌/◌, ◌^◌, ◌≤◌, ◌<◌}
 use mathlib.Core.Path.{◌≡◌, refl, sym, ◌∙◌, ap}
 use mathlib.Core.Bool.{Bool, true, false, not, cond}
-use mathlib.Core.Logic.{◌⊎◌, inl, inr, ⊎_elim}
+use mathlib.Core.Logic.{inl, ⊎_elim}
 use mathlib.Core.List.{List}
 use native.Mathlib.Omega.{arith}
 use lib.Pow.{pow_pos, pow_mono}
-use lib.ListN.{length, get_or, get_or-eq_default}
+use lib.ListN.{get_or, get_or-eq_default}
 use Rattle.theory.specs.Fold.{both, count}
 use Rattle.theory.specs.Rounds.{Arena, fell, node_falls, rank_in, ranks_after, mask_below}
 use Rattle.theory.specs.Delay.{on_right}
 use Rattle.theory.specs.Table.{bit}
 use Rattle.theory.proofs.Fold.{bool, not_both, below?, both_none, both_second}
 use Rattle.theory.proofs.Rounds.{fell_true, fell_false, rank_zero, rank_suc, rank_out}
-use Rattle.theory.proofs.Masks.{mask_bit, mask_lt}
+use Rattle.theory.proofs.Masks.{mask_bit}
 use Rattle.sheet.specs.Kinds.{controller_at, safe_at}
 use Rattle.walk.specs.declared.level.Level.{Level}
 use Rattle.solver.specs.code.Work.{Work}
 use Rattle.solver.specs.code.First.{row_falls, row_mask, stand_below, Placed}
-use Rattle.solver.proofs.StateLaws.{rank_of, mask_of, entry_of, Segment, standing, Good}
+use Rattle.solver.proofs.StateLaws.{rank_of, mask_of, entry_of, standing, Good}
 
 -- the mask of all actions
 

@@ -1,13 +1,12 @@
 -- What holds of the worklist's state while round n + 1 is worked, over any arena, and that marking a spoilt action keeps it.
 -- Assumes nothing.
-use Prim.Native.Nat.{ℕ, zero, suc, ◌+◌, ◌-◌, ◌^◌, ◌≤◌, ◌<◌}
+use Prim.Native.Nat.{ℕ, ◌+◌, ◌-◌, ◌^◌, ◌≤◌, ◌<◌}
 use mathlib.Core.Path.{◌≡◌, refl, sym, ◌∙◌, ap}
-use mathlib.Core.Bool.{Bool, true, false, not}
+use mathlib.Core.Bool.{true, false, not}
 use mathlib.Core.Logic.{◌⊎◌, inl, inr, ⊎_elim}
 use mathlib.Core.List.Memᴰ
 use mathlib.Core.List.{List, [], ◌∷◌, Memᴰ}
 use native.Mathlib.Omega.{arith}
-use lib.Dec.{eqb, ltb}
 use lib.Pow.{pow_pos}
 use lib.ListN.{length, get_or, set, length-set, get_or-eq_default}
 use lib.Seq.{get_or-set_same, get_or-set_other}
@@ -19,7 +18,7 @@ use Rattle.theory.proofs.Fold.{bool, not_both, below?, same?, stored, count_less
 use Rattle.theory.proofs.Rounds.{fell_true, fell_false, stood_rank}
 use Rattle.theory.proofs.Masks.{zero_bit}
 use Rattle.solver.specs.code.Work.{Work, work, fall_to, leave_to, mark_to, marks_to, spoil_all_to}
-use Rattle.solver.proofs.BitLaws.{bit_le, bit_out, bit_other, some_mask}
+use Rattle.solver.proofs.BitLaws.{bit_out, bit_other, some_mask}
 
 abbrev pub rank_of : Work → ℕ → ℕ
 rank_of w k = get_or w.ranks k 0

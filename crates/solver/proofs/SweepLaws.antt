@@ -1,19 +1,18 @@
 -- The code of src/sweep.rt. Assumes nothing.
 use Prim.Native.Nat.{ℕ, suc, ◌+◌, ◌-◌, ◌*◌, ◌/◌, ◌%◌, ◌≤◌, ◌<◌}
 use mathlib.Core.Path.{◌≡◌, refl, sym, ◌∙◌, ap}
-use mathlib.Core.Bool.{Bool, true, false}
-use mathlib.Core.List.{List}
+use mathlib.Core.Bool.{true, false}
 use native.Mathlib.Omega.{arith}
 use native.Mathlib.Nat.{mod-lt, div-le_self, mul-le-mul_left}
 use mir.Val.{Fits}
 use mir.Syntax.{w8}
-use lib.ListN.{length, get_or}
+use lib.ListN.{get_or}
 use borrow.Author.Rules.{rules}
 use Rattle.walk.specs.declared.level.Level.{Level}
 use Rattle.solver.specs.declared.spread.Spot.{Spot}
 use Rattle.solver.specs.code.Sizes.{largest16}
 use Rattle.solver.specs.code.Work.{Work, marks_to}
-use Rattle.solver.specs.code.Chains.{head_of, Chains}
+use Rattle.solver.specs.code.Chains.{head_of}
 use Rattle.solver.specs.code.Spread.{Spotted, even_nodes, odd_nodes}
 use Rattle.solver.specs.code.Sweep.{Index, Fitted, spot_at, nodes_before, spread_to, sweep_to}
 

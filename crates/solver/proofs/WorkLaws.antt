@@ -1,32 +1,28 @@
 -- All rounds at one delay (src/work.rt), over the arena of the arrays. Assumes nothing.
-use Prim.Native.Nat.{ℕ, zero, suc, ◌+◌, ◌-◌, ◌*◌, ◌/◌, ◌%◌, ◌^◌, ◌≤◌, ◌<◌}
+use Prim.Native.Nat.{ℕ, ◌+◌, ◌-◌, ◌*◌, ◌%◌, ◌^◌, ◌≤◌, ◌<◌}
 use mathlib.Core.Path.{◌≡◌, refl, sym, ◌∙◌, ap}
-use mathlib.Core.Bool.{Bool, true, false}
 use mathlib.Core.List.{List}
 use native.Mathlib.Omega.{arith}
 use native.Mathlib.Nat.{mod-eq_of_lt}
 use mir.Val.{Fits}
-use mir.Syntax.{w8, w16}
+use mir.Syntax.{w8}
 use lib.Pow.{pow_pos, pow_mono}
-use lib.ListN.{length, get_or, take}
+use lib.ListN.{length, take}
 use lib.Seq.{length-take-le}
 use borrow.Author.Rules.{rules}
-use Rattle.theory.specs.Game.{absent, Game}
-use Rattle.theory.specs.Rounds.{Arena, fell, ranks_after}
+use Rattle.theory.specs.Rounds.{Arena, ranks_after}
 use Rattle.theory.proofs.Rounds.{fell_rank}
 use Rattle.sheet.specs.code.Arrays.{view_of}
 use Rattle.walk.specs.declared.level.Level.{Level}
 use Rattle.walk.specs.code.Levels.{arena_of}
-use Rattle.walk.specs.code.Nodes.{Sized}
 use Rattle.sheet.specs.Limits.{most_nodes}
 use Rattle.solver.specs.code.Sizes.{largest16}
-use Rattle.solver.specs.code.Work.{Work, work, Lent}
-use Rattle.solver.specs.code.Sweep.{Index, index, Fitted, sweep_to}
+use Rattle.solver.specs.code.Work.{Work, Lent}
+use Rattle.solver.specs.code.Sweep.{index, sweep_to}
 use Rattle.solver.specs.code.First.{Placed}
 use Rattle.solver.specs.code.Block.{blocks_to}
 use Rattle.solver.specs.code.Working.{Workable, Worked}
-use Rattle.solver.proofs.StateLaws.{standing, Good}
-use Rattle.solver.proofs.RoundLaws.{Marked}
+use Rattle.solver.proofs.StateLaws.{Good}
 use Rattle.solver.proofs.ReadyLaws.{Ready, Finished, ready_next, ready_done}
 use Rattle.solver.proofs.StartLaws.{start_good}
 use Rattle.solver.proofs.BlockLaws.{blocks_good, blocks_marked}

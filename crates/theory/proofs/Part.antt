@@ -9,7 +9,7 @@ use native.Mathlib.Omega.{arith}
 use lib.ListN.{get_or}
 use Rattle.theory.specs.Fold.{both, tabulate}
 use Rattle.theory.specs.Game.{Game, Legal}
-use Rattle.theory.specs.Rounds.{Arena, final_ranks, kept, masks}
+use Rattle.theory.specs.Rounds.{Arena, final_ranks, kept}
 use Rattle.theory.specs.Delay.{initial_words, arena, good_from, flag_by}
 use Rattle.theory.specs.Table.{Table, flagged, lacks, has, allows, TableFits, Judged, Inside}
 use Rattle.theory.specs.Closing.{restrict, part, SizedMasks, StandingMasks}

@@ -14,7 +14,7 @@ use borrow.Author.Tests.{eqb-false, ne_eqb, not-true}
 use Rattle.theory.specs.Game.{Game, Target, absent, to, Legal}
 use Rattle.theory.specs.Play.{Play}
 use Rattle.theory.specs.Strategy.{initial_length, Strategy, Wins}
-use Rattle.theory.specs.Rounds.{spoilt_by, masks}
+use Rattle.theory.specs.Rounds.{spoilt_by}
 use Rattle.theory.specs.Delay.{odd, words, initial_words, on_right, moved_to, played_to, outcomes, step, arena, good_from}
 use Rattle.theory.specs.Table.{Table, flagged, lacks, has, allows, Judged, Inside, node, Obeys}
 use Rattle.theory.proofs.Fold.{bool, not_both}

@@ -1,6 +1,5 @@
 -- `lq_read` meets its contract, by the laws of ExportLaws.antt. Assumes nothing.
 use Rattle.capi.proofs.ExportLaws.{reads}
-use borrow.Author.Rules.{rules}
 use Rattle.capi.proofs.lq_read.Goals as goal
 
 pub returns-in_default-clause-number : goal.returns-in_default-clause-number

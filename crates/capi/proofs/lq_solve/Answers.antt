@@ -1,6 +1,5 @@
 -- `lq_solve` meets its contract, by the laws of ExportLaws.antt. Assumes nothing.
 use Rattle.capi.proofs.ExportLaws.{solves}
-use borrow.Author.Rules.{rules}
 use Rattle.capi.proofs.lq_solve.Goals as goal
 
 pub returns-in-Refused-clause-number : goal.returns-in-Refused-clause-number

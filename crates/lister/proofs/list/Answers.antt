@@ -1,6 +1,5 @@
 -- `list` meets its contract. Assumes nothing.
 use Rattle.lister.proofs.InputLaws.{long, refusing, accepting, placing}
-use borrow.Author.Rules.{rules}
 use Rattle.lister.proofs.list.Goals as goal
 
 pub returns-then-sheet-gt-MOST_INPUT : goal.returns-then-sheet-gt-MOST_INPUT

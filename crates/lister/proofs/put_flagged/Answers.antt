@@ -1,6 +1,5 @@
 -- `put_flagged` meets its contract. Assumes nothing.
 use Rattle.lister.proofs.Words.{words_laws}
-use borrow.Author.Rules.{rules}
 use Rattle.lister.proofs.put_flagged.Goals as goal
 
 pub initial_flags-n-requires : goal.initial_flags-n-requires

@@ -1,7 +1,6 @@
 -- `put_game` meets its contract. Assumes nothing.
 use native.Mathlib.Omega.{arith}
 use Rattle.lister.proofs.SolvedLaws.{solving, few_positions, lost_text_lem}
-use borrow.Author.Rules.{rules}
 use Rattle.lister.proofs.put_game.Goals as goal
 
 pub overflow_cast-positions : goal.overflow_cast-positions

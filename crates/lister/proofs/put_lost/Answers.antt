@@ -1,6 +1,5 @@
 -- `put_lost` meets its contract. Assumes nothing.
 use Rattle.lister.proofs.TextLaws.{parts}
-use borrow.Author.Rules.{rules}
 use Rattle.lister.proofs.put_lost.Goals as goal
 
 pub wide-actions-requires : goal.wide-actions-requires

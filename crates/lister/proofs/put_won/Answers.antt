@@ -1,6 +1,5 @@
 -- `put_won` meets its contract. Assumes nothing.
 use Rattle.lister.proofs.TextLaws.{parts}
-use borrow.Author.Rules.{rules}
 use Rattle.lister.proofs.put_won.Goals as goal
 
 pub wide-delay-requires : goal.wide-delay-requires

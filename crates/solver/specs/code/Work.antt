@@ -1,6 +1,6 @@
 -- The worklist's state, and what it does with one node. While round n + 1 is worked, a bit goes out of a node's mask when its
 -- action is known to be spoilt, and a node falls when its last bit goes out. Assumes nothing.
-use Rattle.std.specs.Prelude.{ℕ, zero, suc, ◌+◌, ◌-◌, ◌^◌, ◌≤◌, ◌≡◌, Bool, cond, eqb, ltb, length, get_or, set}
+use Rattle.std.specs.Prelude.{ℕ, zero, suc, ◌+◌, ◌-◌, ◌^◌, ◌≤◌, ◌≡◌, cond, eqb, ltb, length, get_or, set}
 use mathlib.Core.List.{List, foldl}
 use Rattle.theory.specs.Table.{bit}
 use Rattle.sheet.specs.Limits.{most_nodes}

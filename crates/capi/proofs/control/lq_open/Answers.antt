@@ -1,6 +1,5 @@
 -- `lq_open` meets its contract, by the laws of ControlLaws.antt. Assumes nothing.
 use Rattle.capi.proofs.ControlLaws.{opens}
-use borrow.Author.Rules.{rules}
 use Rattle.capi.proofs.control.lq_open.Goals as goal
 
 pub opening-step-requires : goal.opening-step-requires

@@ -1,6 +1,5 @@
 -- `lq_judge` meets its contract, by the laws of ExportLaws.antt. Assumes nothing.
 use Rattle.capi.proofs.ExportLaws.{judges}
-use borrow.Author.Rules.{rules}
 use Rattle.capi.proofs.tables.lq_judge.Goals as goal
 
 pub returns-in-Refused-clause-number : goal.returns-in-Refused-clause-number

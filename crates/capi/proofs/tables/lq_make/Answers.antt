@@ -1,6 +1,5 @@
 -- `lq_make` meets its contract, by the laws of ExportLaws.antt. Assumes nothing.
 use Rattle.capi.proofs.ExportLaws.{makes}
-use borrow.Author.Rules.{rules}
 use Rattle.capi.proofs.tables.lq_make.Goals as goal
 
 pub returns-in-Refused-clause-number : goal.returns-in-Refused-clause-number

@@ -1,6 +1,5 @@
 -- `lq_masks` meets its contract, by the laws of ExportLaws.antt. Assumes nothing.
 use Rattle.capi.proofs.ExportLaws.{reads_tables}
-use borrow.Author.Rules.{rules}
 use Rattle.capi.proofs.tables.lq_masks.Goals as goal
 
 pub read-reading-requires : goal.read-reading-requires

@@ -1,5 +1,4 @@
 -- `lq_post` meets its contract, by the laws of ExportLaws.antt. Assumes nothing.
-use borrow.Author.Rules.{rules}
 use Rattle.capi.proofs.ExportLaws.{posts}
 use Rattle.capi.proofs.tables.lq_post.Goals as goal
 

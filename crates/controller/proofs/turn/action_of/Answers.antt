@@ -1,7 +1,4 @@
 -- `action_of` meets its contract: at the head of its loop the action is that of what is left of the word. Assumes nothing.
-use Prim.Native.Nat.{◌+◌}
-use mathlib.Core.Path.{◌≡◌}
-use Rattle.theory.specs.Words.{digit}
 use Rattle.controller.proofs.ActionLaws.{digit_laws}
 use Rattle.controller.proofs.turn.action_of.Goals as goal
 

@@ -2,7 +2,6 @@
 use Prim.Native.Nat.{◌+◌}
 use mathlib.Core.Path.{◌≡◌}
 use Rattle.theory.specs.Words.{digit}
-use Rattle.controller.proofs.ActionLaws.{digit_laws}
 use Rattle.controller.proofs.turn.action_of.Given as goal
 
 abbrev pub invariant-loop-younger : goal.invariant-loop-younger

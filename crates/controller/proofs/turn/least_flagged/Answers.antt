@@ -1,9 +1,5 @@
 -- `least_flagged` meets its contract: at the head of its loop no word before v has a flag. Assumes nothing.
-use Prim.Native.Nat.{◌≤◌, ◌-◌}
-use mathlib.Core.Path.{◌≡◌}
-use mathlib.Core.Bool.{true}
-use lib.ListN.{length}
-use Rattle.controller.proofs.ActionLaws.{none_before, least_laws}
+use Rattle.controller.proofs.ActionLaws.{least_laws}
 use Rattle.controller.proofs.turn.least_flagged.Goals as goal
 
 pub loop-v-init : goal.loop-v-init

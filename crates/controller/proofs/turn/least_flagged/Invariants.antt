@@ -3,7 +3,7 @@ use Prim.Native.Nat.{◌≤◌, ◌-◌}
 use mathlib.Core.Path.{◌≡◌}
 use mathlib.Core.Bool.{true}
 use lib.ListN.{length}
-use Rattle.controller.proofs.ActionLaws.{none_before, least_laws}
+use Rattle.controller.proofs.ActionLaws.{none_before}
 use Rattle.controller.proofs.turn.least_flagged.Given as goal
 
 abbrev pub invariant-loop-v : goal.invariant-loop-v

@@ -1,7 +1,5 @@
 -- `node_of` meets its contract: at the head of its loop the node is that of the actions from k on. Assumes nothing.
-use Prim.Native.Nat.{◌+◌, ◌-◌, ◌^◌, ◌≤◌, ◌<◌}
-use mathlib.Core.Path.{◌≡◌}
-use Rattle.controller.proofs.ActionLaws.{node_from, node_laws}
+use Rattle.controller.proofs.ActionLaws.{node_laws}
 use Rattle.controller.proofs.turn.node_of.Goals as goal
 
 pub wide-base-requires : goal.wide-base-requires

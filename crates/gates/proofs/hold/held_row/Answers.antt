@@ -1,10 +1,4 @@
 -- `held_row` meets its contract. The cells of the actions passed are in place. Assumes nothing.
-use Prim.Native.Nat.{◌-◌, ◌≤◌}
-use mathlib.Core.Path.{◌≡◌}
-use lib.ListN.{length}
-use Rattle.theory.proofs.Filling.{filled}
-use Rattle.sheet.specs.Limits.{most_actions}
-use Rattle.gates.specs.code.Held.{cell_held}
 use Rattle.gates.proofs.HoldLaws.{holding}
 use Rattle.gates.proofs.hold.held_row.Goals as goal
 

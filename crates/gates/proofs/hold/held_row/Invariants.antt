@@ -5,7 +5,6 @@ use lib.ListN.{length}
 use Rattle.theory.proofs.Filling.{filled}
 use Rattle.sheet.specs.Limits.{most_actions}
 use Rattle.gates.specs.code.Held.{cell_held}
-use Rattle.gates.proofs.HoldLaws.{holding}
 use Rattle.gates.proofs.hold.held_row.Given as goal
 
 abbrev pub invariant-loop-x : goal.invariant-loop-x

@@ -1,10 +1,4 @@
 -- `hold` meets its contract. The rows of the positions passed are in place. Assumes nothing.
-use Prim.Native.Nat.{◌-◌, ◌≤◌}
-use mathlib.Core.Path.{◌≡◌}
-use lib.ListN.{length}
-use Rattle.theory.proofs.Filling.{filled}
-use Rattle.sheet.specs.Limits.{most_positions}
-use Rattle.gates.specs.code.Held.{row_held_at}
 use Rattle.gates.proofs.HoldLaws.{holding}
 use Rattle.gates.proofs.hold.hold.Goals as goal
 

@@ -5,7 +5,6 @@ use lib.ListN.{length}
 use Rattle.theory.proofs.Filling.{filled}
 use Rattle.sheet.specs.Limits.{most_positions}
 use Rattle.gates.specs.code.Held.{row_held_at}
-use Rattle.gates.proofs.HoldLaws.{holding}
 use Rattle.gates.proofs.hold.hold.Given as goal
 
 abbrev pub invariant-loop-q : goal.invariant-loop-q

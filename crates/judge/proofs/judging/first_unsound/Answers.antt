@@ -1,10 +1,4 @@
 -- `first_unsound` meets its contract. Every node passed may keep its mask. Assumes nothing.
-use Prim.Native.Nat.{◌-◌, ◌≤◌}
-use mathlib.Core.Path.{◌≡◌}
-use mathlib.Core.Bool.{true}
-use Rattle.theory.specs.Fold.{all_below}
-use Rattle.walk.specs.code.Levels.{arena_of}
-use Rattle.judge.specs.code.Tests.{whole_at}
 use Rattle.judge.proofs.JudgeLaws.{searching}
 use Rattle.judge.proofs.judging.first_unsound.Goals as goal
 

@@ -5,7 +5,6 @@ use mathlib.Core.Bool.{true}
 use Rattle.theory.specs.Fold.{all_below}
 use Rattle.walk.specs.code.Levels.{arena_of}
 use Rattle.judge.specs.code.Tests.{whole_at}
-use Rattle.judge.proofs.JudgeLaws.{searching}
 use Rattle.judge.proofs.judging.first_unsound.Given as goal
 
 abbrev pub invariant-loop-k : goal.invariant-loop-k

@@ -1,10 +1,4 @@
 -- `first_wrong` meets its contract. Every flag passed stands. Assumes nothing.
-use Prim.Native.Nat.{◌-◌, ◌≤◌}
-use mathlib.Core.Path.{◌≡◌}
-use mathlib.Core.Bool.{true}
-use lib.ListN.{length}
-use Rattle.theory.specs.Fold.{all_below}
-use Rattle.judge.specs.code.Tests.{flag_stands}
 use Rattle.judge.proofs.JudgeLaws.{searching}
 use Rattle.judge.proofs.judging.first_wrong.Goals as goal
 

@@ -5,7 +5,6 @@ use mathlib.Core.Bool.{true}
 use lib.ListN.{length}
 use Rattle.theory.specs.Fold.{all_below}
 use Rattle.judge.specs.code.Tests.{flag_stands}
-use Rattle.judge.proofs.JudgeLaws.{searching}
 use Rattle.judge.proofs.judging.first_wrong.Given as goal
 
 abbrev pub invariant-loop-v : goal.invariant-loop-v

@@ -1,6 +1,5 @@
 -- `make` meets its contract, by the laws of AnswerLaws.antt. Assumes nothing.
 use mathlib.Core.Path.{refl}
-use borrow.Author.Rules.{rules}
 use Rattle.maker.proofs.SolvedLaws.{make_is}
 use Rattle.maker.proofs.AnswerLaws.{reads, refuses, accepts, reading_refused, read_says}
 use Rattle.maker.proofs.making.make.Goals as goal

@@ -1,5 +1,4 @@
 -- `make_read` meets its contract, by the laws of SolvedLaws.antt. Assumes nothing.
-use borrow.Author.Rules.{rules}
 use Rattle.maker.proofs.SolvedLaws.{solved, makes_won, makes_lost, no_refusal}
 use Rattle.maker.proofs.making.make_read.Goals as goal
 

@@ -1,5 +1,4 @@
 -- `short_buffer` meets its contract, by the laws of RoomLaws.antt. Assumes nothing.
-use borrow.Author.Rules.{rules}
 use Rattle.maker.proofs.RoomLaws.{shorts}
 use Rattle.maker.proofs.making.short_buffer.Goals as goal
 

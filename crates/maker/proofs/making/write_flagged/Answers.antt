@@ -1,5 +1,4 @@
 -- `write_flagged` meets its contract, by the laws of WrittenLaws.antt. Assumes nothing.
-use borrow.Author.Rules.{rules}
 use Rattle.maker.proofs.WrittenLaws.{table_sheets}
 use Rattle.maker.proofs.making.write_flagged.Goals as goal
 

@@ -1,5 +1,4 @@
 -- `write_ranks` meets its contract, by the laws of WrittenLaws.antt. Assumes nothing.
-use borrow.Author.Rules.{rules}
 use Rattle.maker.proofs.WrittenLaws.{rank_sheets}
 use Rattle.maker.proofs.making.write_ranks.Goals as goal
 

@@ -1,10 +1,4 @@
 -- `all_exist` meets its contract. Assumes nothing.
-use Prim.Native.Nat.{◌-◌, ◌≤◌}
-use mathlib.Core.Path.{◌≡◌}
-use mathlib.Core.Bool.{true}
-use lib.ListN.{length}
-use Rattle.theory.specs.Fold.{all_below}
-use Rattle.table.specs.TableSheet.{below_at}
 use Rattle.notice.proofs.CloseLaws.{existing}
 use Rattle.notice.proofs.closing.all_exist.Goals as goal
 

@@ -5,7 +5,6 @@ use mathlib.Core.Bool.{true}
 use lib.ListN.{length}
 use Rattle.theory.specs.Fold.{all_below}
 use Rattle.table.specs.TableSheet.{below_at}
-use Rattle.notice.proofs.CloseLaws.{existing}
 use Rattle.notice.proofs.closing.all_exist.Given as goal
 
 abbrev pub invariant-loop-i : goal.invariant-loop-i

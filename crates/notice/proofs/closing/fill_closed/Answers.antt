@@ -1,9 +1,4 @@
 -- `fill_closed` meets its contract. Assumes nothing.
-use Prim.Native.Nat.{◌-◌, ◌≤◌}
-use mathlib.Core.Path.{◌≡◌}
-use lib.ListN.{length}
-use Rattle.theory.proofs.Filling.{filled}
-use Rattle.notice.specs.code.Closed.{closed_at}
 use Rattle.notice.proofs.CloseLaws.{closing_all}
 use Rattle.notice.proofs.closing.fill_closed.Goals as goal
 

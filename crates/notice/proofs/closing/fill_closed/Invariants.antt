@@ -4,7 +4,6 @@ use mathlib.Core.Path.{◌≡◌}
 use lib.ListN.{length}
 use Rattle.theory.proofs.Filling.{filled}
 use Rattle.notice.specs.code.Closed.{closed_at}
-use Rattle.notice.proofs.CloseLaws.{closing_all}
 use Rattle.notice.proofs.closing.fill_closed.Given as goal
 
 abbrev pub invariant-loop-q : goal.invariant-loop-q

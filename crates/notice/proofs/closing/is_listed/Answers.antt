@@ -1,8 +1,4 @@
 -- `is_listed` meets its contract. Assumes nothing.
-use Prim.Native.Nat.{◌-◌, ◌≤◌}
-use mathlib.Core.Path.{◌≡◌}
-use lib.ListN.{length, drop}
-use Rattle.theory.specs.Closing.{listed}
 use Rattle.notice.proofs.CloseLaws.{listing}
 use Rattle.notice.proofs.closing.is_listed.Goals as goal
 

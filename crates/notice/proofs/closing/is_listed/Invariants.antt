@@ -3,7 +3,6 @@ use Prim.Native.Nat.{◌-◌, ◌≤◌}
 use mathlib.Core.Path.{◌≡◌}
 use lib.ListN.{length, drop}
 use Rattle.theory.specs.Closing.{listed}
-use Rattle.notice.proofs.CloseLaws.{listing}
 use Rattle.notice.proofs.closing.is_listed.Given as goal
 
 abbrev pub invariant-loop-i : goal.invariant-loop-i

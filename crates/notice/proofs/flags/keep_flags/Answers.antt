@@ -1,9 +1,4 @@
 -- `keep_flags` meets its contract. Assumes nothing.
-use Prim.Native.Nat.{◌-◌, ◌≤◌}
-use mathlib.Core.Path.{◌≡◌}
-use lib.ListN.{length}
-use Rattle.theory.proofs.Filling.{filled}
-use Rattle.notice.specs.code.Left.{kept_flag_at}
 use Rattle.notice.proofs.WordLaws.{keeping}
 use Rattle.notice.proofs.flags.keep_flags.Goals as goal
 

@@ -4,7 +4,6 @@ use mathlib.Core.Path.{◌≡◌}
 use lib.ListN.{length}
 use Rattle.theory.proofs.Filling.{filled}
 use Rattle.notice.specs.code.Left.{kept_flag_at}
-use Rattle.notice.proofs.WordLaws.{keeping}
 use Rattle.notice.proofs.flags.keep_flags.Given as goal
 
 abbrev pub invariant-loop-v : goal.invariant-loop-v

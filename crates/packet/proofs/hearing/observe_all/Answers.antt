@@ -1,5 +1,5 @@
 -- `observe_all` meets its contract, by the laws of proofs/WalkLaws.antt. Assumes nothing.
-use Rattle.std.proofs.Common.{◌≡◌, ◌≤◌, ◌∙◌, sym, ap, length, arith}
+use Rattle.std.proofs.Common.{◌≤◌, ◌∙◌, sym, ap, length, arith}
 use Rattle.packet.specs.code.Walked.{walked_of, concluded}
 use Rattle.packet.proofs.WalkLaws.{walked_few, walked_short, left_next, left_done, packet_whole}
 use Rattle.packet.proofs.hearing.observe_all.Goals as goal

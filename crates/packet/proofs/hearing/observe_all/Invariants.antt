@@ -6,7 +6,7 @@ use Rattle.packet.proofs.hearing.observe_all.Given as goal
 abbrev pub invariant-loop-place : goal.invariant-loop-place
 invariant-loop-place l = record {
   within : l.place ≤ l.n;
-  left : walked_by (walked_of l.packet) l.place (drop l.place (take l.n l.observations)) ≡ walked_by (begun l.sheet l.state (length l.observations)) 0 (take l.n l.observations)
+  left : walked_by (walked_of l.packet) l.place (drop l.place (take l.n l.observations)) ≡ walked_by (begun l.sheet l.state (length l.observations)) 0 (take l.n l.observations);
 }
 
 abbrev pub decreases-loop-place : goal.decreases-loop-place

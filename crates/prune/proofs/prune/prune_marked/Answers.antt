@@ -1,9 +1,5 @@
 -- `prune_marked` meets its contract. Assumes nothing.
 use borrow.Author.Rules.{rules}
-use mathlib.Core.Path.{◌≡◌}
-use lib.ListN.{length}
-use Rattle.walk.specs.code.Levels.{arena_of}
-use Rattle.prune.specs.code.Pruning.{Cut, Ready, total}
 use Rattle.prune.proofs.PruneCode.{on_cut, on_ready, rounding}
 use Rattle.prune.proofs.prune.prune_marked.Goals as goal
 

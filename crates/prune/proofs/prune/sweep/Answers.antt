@@ -1,11 +1,7 @@
 -- `sweep` meets its contract. Assumes nothing.
-use Prim.Native.Nat.{◌-◌, ◌≤◌}
-use mathlib.Core.Path.{◌≡◌, refl, sym}
+use mathlib.Core.Path.{refl, sym}
 use borrow.Author.Rules.{rules}
 use Rattle.prune.proofs.CutLaws.{swept_next, changed_next}
-use lib.ListN.{length}
-use Rattle.walk.specs.code.Levels.{arena_of}
-use Rattle.prune.specs.code.Pruning.{swept_to, changed_to, Ready}
 use Rattle.prune.proofs.PruneCode.{ready_room, sweeping}
 use Rattle.prune.proofs.prune.sweep.Goals as goal
 

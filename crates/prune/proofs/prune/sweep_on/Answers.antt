@@ -1,8 +1,6 @@
 -- `sweep_on` meets its contract. Assumes nothing.
 use borrow.Author.Rules.{rules}
 use Rattle.prune.proofs.PruneCode.{ready_room, queue_short, sweep_drained, sweeping_on}
-use mathlib.Core.Path.{ap}
-use mathlib.Core.Bool.{not}
 use Rattle.prune.proofs.prune.sweep_on.Goals as goal
 
 pub drain-requires : goal.drain-requires

@@ -1,10 +1,5 @@
 -- `drain` meets its contract. Assumes nothing.
-use Prim.Native.Nat.{◌-◌, ◌≤◌}
-use mathlib.Core.Path.{◌≡◌}
-use lib.ListN.{length}
 use borrow.Author.Rules.{rules}
-use Rattle.walk.specs.code.Levels.{arena_of}
-use Rattle.prune.specs.code.Pruning.{Goes}
 use Rattle.prune.proofs.PruneCode.{goes_on, draining}
 use Rattle.prune.proofs.strike.drain.Goals as goal
 

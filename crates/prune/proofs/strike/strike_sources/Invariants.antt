@@ -1,11 +1,9 @@
 -- `strike_sources` meets its contract. Assumes nothing.
-use borrow.Author.Rules.{rules}
 use Prim.Native.Nat.{◌-◌, ◌≤◌}
 use mathlib.Core.Path.{◌≡◌}
 use lib.ListN.{length}
 use Rattle.walk.specs.code.Levels.{arena_of}
 use Rattle.prune.specs.code.Pruning.{Goes}
-use Rattle.prune.proofs.PruneCode.{goes_on, strikes}
 use Rattle.prune.proofs.strike.strike_sources.Given as goal
 
 abbrev pub invariant-loop-q : goal.invariant-loop-q

@@ -1,11 +1,5 @@
 -- `reader::checks::positions_ok` meets its contract, by the laws of proofs/CheckLaws.antt. The loop has passed q known positions.
 -- Assumes nothing.
-use Prim.Native.Nat.{◌≤◌, ◌-◌}
-use mathlib.Core.Path.{◌≡◌}
-use mathlib.Core.Bool.{true}
-use lib.ListN.{length}
-use Rattle.theory.specs.Fold.{all_below}
-use Rattle.sheet.specs.Kinds.{known_at}
 use Rattle.reader.proofs.CheckLaws.{positions}
 use Rattle.reader.proofs.checks.positions_ok.Goals as goal
 

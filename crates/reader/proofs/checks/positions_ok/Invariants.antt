@@ -6,7 +6,6 @@ use mathlib.Core.Bool.{true}
 use lib.ListN.{length}
 use Rattle.theory.specs.Fold.{all_below}
 use Rattle.sheet.specs.Kinds.{known_at}
-use Rattle.reader.proofs.CheckLaws.{positions}
 use Rattle.reader.proofs.checks.positions_ok.Given as goal
 
 abbrev pub invariant-loop-q : goal.invariant-loop-q

@@ -1,11 +1,5 @@
 -- `reader::lines::all_leave` meets its contract, by the laws of proofs/CheckLaws.antt. The loop has passed q positions that have a move.
 -- Assumes nothing.
-use Prim.Native.Nat.{◌≤◌, ◌-◌}
-use mathlib.Core.Path.{◌≡◌}
-use mathlib.Core.Bool.{true}
-use lib.ListN.{length}
-use Rattle.theory.specs.Fold.{all_below}
-use Rattle.reader.specs.Checks.{leaves_at}
 use Rattle.reader.proofs.CheckLaws.{leaving}
 use Rattle.reader.proofs.lines.all_leave.Goals as goal
 

@@ -6,7 +6,6 @@ use mathlib.Core.Bool.{true}
 use lib.ListN.{length}
 use Rattle.theory.specs.Fold.{all_below}
 use Rattle.reader.specs.Checks.{leaves_at}
-use Rattle.reader.proofs.CheckLaws.{leaving}
 use Rattle.reader.proofs.lines.all_leave.Given as goal
 
 abbrev pub invariant-loop-q : goal.invariant-loop-q

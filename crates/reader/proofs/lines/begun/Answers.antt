@@ -1,11 +1,6 @@
 -- `reader::lines::begun` meets its contract, by the laws of proofs/CheckLaws.antt. The loop has passed k lines. Assumes nothing.
-use Prim.Native.Nat.{◌≤◌, ◌-◌}
-use mathlib.Core.Path.{◌≡◌}
 use native.Mathlib.Omega.{arith}
-use Rattle.theory.specs.Fold.{tabulate}
-use Rattle.reader.specs.Checks.{has_line}
 use Rattle.reader.proofs.CheckLaws.{beginning, line_within}
-use Rattle.sheet.specs.Limits.{most_positions}
 use Rattle.reader.proofs.lines.begun.Goals as goal
 
 pub overflow_mul-width : goal.overflow_mul-width

@@ -1,11 +1,5 @@
 -- `reader::lines::moves_ok` meets its contract, by the laws of proofs/CheckLaws.antt. The loop has passed k right lines.
 -- Assumes nothing.
-use Prim.Native.Nat.{◌≤◌, ◌-◌, ◌/◌}
-use mathlib.Core.Path.{◌≡◌}
-use mathlib.Core.Bool.{true}
-use lib.ListN.{length}
-use Rattle.theory.specs.Fold.{all_below}
-use Rattle.reader.specs.Checks.{move_ok}
 use Rattle.reader.proofs.CheckLaws.{moves}
 use Rattle.reader.proofs.lines.moves_ok.Goals as goal
 

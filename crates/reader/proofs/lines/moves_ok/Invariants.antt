@@ -6,7 +6,6 @@ use mathlib.Core.Bool.{true}
 use lib.ListN.{length}
 use Rattle.theory.specs.Fold.{all_below}
 use Rattle.reader.specs.Checks.{move_ok}
-use Rattle.reader.proofs.CheckLaws.{moves}
 use Rattle.reader.proofs.lines.moves_ok.Given as goal
 
 abbrev pub invariant-loop-k : goal.invariant-loop-k

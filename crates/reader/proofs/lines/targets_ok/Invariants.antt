@@ -6,7 +6,6 @@ use mathlib.Core.Bool.{true}
 use lib.ListN.{length}
 use Rattle.theory.specs.Fold.{all_below}
 use Rattle.reader.specs.Checks.{target_ok}
-use Rattle.reader.proofs.CheckLaws.{targets}
 use Rattle.reader.proofs.lines.targets_ok.Given as goal
 
 abbrev pub invariant-loop-k : goal.invariant-loop-k

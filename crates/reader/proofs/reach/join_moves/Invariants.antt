@@ -1,7 +1,6 @@
 -- `join_moves` meets its contract. The moves on the lines passed have joined. Assumes nothing.
 use Prim.Native.Nat.{◌-◌, ◌≤◌}
 use Rattle.reader.specs.code.Reaching.{queue_of, Grown, by_line}
-use Rattle.reader.proofs.ReachLaws.{lining}
 use Rattle.reader.proofs.reach.join_moves.Given as goal
 
 abbrev pub invariant-loop-line : goal.invariant-loop-line

@@ -1,6 +1,4 @@
 -- `join_targets` meets its contract. The targets of the actions passed have joined. Assumes nothing.
-use Prim.Native.Nat.{◌-◌, ◌≤◌}
-use Rattle.reader.specs.code.Reaching.{queue_of, Grown, by_action_in}
 use Rattle.reader.proofs.ReachLaws.{targeting}
 use Rattle.reader.proofs.reach.join_targets.Goals as goal
 

@@ -1,7 +1,6 @@
 -- `join_targets` meets its contract. The targets of the actions passed have joined. Assumes nothing.
 use Prim.Native.Nat.{◌-◌, ◌≤◌}
 use Rattle.reader.specs.code.Reaching.{queue_of, Grown, by_action_in}
-use Rattle.reader.proofs.ReachLaws.{targeting}
 use Rattle.reader.proofs.reach.join_targets.Given as goal
 
 abbrev pub invariant-loop-x : goal.invariant-loop-x

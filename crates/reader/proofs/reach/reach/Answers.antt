@@ -1,10 +1,6 @@
 -- `reach` meets its contract. The moves from the first `done` positions of the queue have been followed. Assumes nothing.
-use Prim.Native.Nat.{◌-◌}
 use native.Mathlib.Omega.{arith}
-use Rattle.sheet.specs.Limits.{most_positions}
-use Rattle.sheet.specs.SheetGame.{game_of}
-use Rattle.reader.specs.code.Reaching.{queue_of}
-use Rattle.reader.proofs.ReachLaws.{Searched, reaching, queue_few, reach_start, reach_next, reach_done}
+use Rattle.reader.proofs.ReachLaws.{reaching, queue_few, reach_start, reach_next, reach_done}
 use Rattle.reader.proofs.reach.reach.Goals as goal
 
 pub loop-done-init : goal.loop-done-init

@@ -11,8 +11,8 @@ check_lines-requires c = headed _ _ c.letters_ok.ensures (ap not c.if-not-letter
 
 pub returns : goal.returns
 returns c = reads_lines _ (headed _ _ c.letters_ok.ensures (ap not c.if-not-letters_ok.false) _ c.body-p.ensures _
-        c.positions_ok.ensures (ap not c.if-not-positions_ok.false) _ c.body.ensures _ c.header_ok.ensures
-        (ap not c.if-not-header_ok.false)) c.check_lines.ensures
+    c.positions_ok.ensures (ap not c.if-not-positions_ok.false) _ c.body.ensures _ c.header_ok.ensures
+    (ap not c.if-not-header_ok.false)) c.check_lines.ensures
 
 pub letters_ok-requires : goal.letters_ok-requires
 letters_ok-requires c = search reads_any

@@ -1,10 +1,4 @@
 -- `all_masks` meets its contract. The masks of the nodes passed are in place. Assumes nothing.
-use Prim.Native.Nat.{◌-◌, ◌≤◌}
-use mathlib.Core.Path.{◌≡◌}
-use lib.ListN.{length}
-use Rattle.walk.specs.code.Levels.{arena_of}
-use Rattle.theory.proofs.Filling.{filled}
-use Rattle.region.specs.code.Kept.{mask_in}
 use Rattle.region.proofs.MaskLaws.{all_masks}
 use Rattle.region.proofs.masks.all_masks.Goals as goal
 

@@ -5,7 +5,6 @@ use lib.ListN.{length}
 use Rattle.walk.specs.code.Levels.{arena_of}
 use Rattle.theory.proofs.Filling.{filled}
 use Rattle.region.specs.code.Kept.{mask_in}
-use Rattle.region.proofs.MaskLaws.{all_masks}
 use Rattle.region.proofs.masks.all_masks.Given as goal
 
 abbrev pub invariant-loop-k : goal.invariant-loop-k

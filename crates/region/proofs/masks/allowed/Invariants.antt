@@ -1,10 +1,8 @@
 -- `allowed` meets its contract. The mask has the bits of the actions passed. Assumes nothing.
 use Prim.Native.Nat.{◌-◌, ◌≤◌, ◌^◌}
 use mathlib.Core.Path.{◌≡◌}
-use mathlib.Core.Logic.{⊎_elim}
-use borrow.Author.Rules.{rules}
 use Rattle.walk.specs.code.Levels.{arena_of}
-use Rattle.region.proofs.MaskLaws.{allowed_below, bits, bits_set, bits_kept, bit_next}
+use Rattle.region.proofs.MaskLaws.{allowed_below}
 use Rattle.region.proofs.masks.allowed.Given as goal
 
 abbrev pub invariant-loop-c : goal.invariant-loop-c

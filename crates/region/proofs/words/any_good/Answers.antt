@@ -1,9 +1,4 @@
 -- `any_good` meets its contract. No word passed is good. Assumes nothing.
-use Prim.Native.Nat.{◌-◌, ◌≤◌}
-use mathlib.Core.Path.{◌≡◌}
-use mathlib.Core.Bool.{false}
-use Rattle.theory.specs.Fold.{any_below}
-use Rattle.region.specs.code.Kept.{good_in}
 use Rattle.region.proofs.GoodLaws.{searching}
 use Rattle.region.proofs.words.any_good.Goals as goal
 

@@ -4,7 +4,6 @@ use mathlib.Core.Path.{◌≡◌}
 use mathlib.Core.Bool.{false}
 use Rattle.theory.specs.Fold.{any_below}
 use Rattle.region.specs.code.Kept.{good_in}
-use Rattle.region.proofs.GoodLaws.{searching}
 use Rattle.region.proofs.words.any_good.Given as goal
 
 abbrev pub invariant-loop-v : goal.invariant-loop-v

@@ -1,10 +1,4 @@
 -- `fill_flags` meets its contract. The flags of the words passed are in place. Assumes nothing.
-use Prim.Native.Nat.{◌-◌, ◌≤◌}
-use mathlib.Core.Path.{◌≡◌}
-use lib.ListN.{length}
-use Rattle.theory.proofs.Filling.{filled}
-use Rattle.theory.specs.Delay.{flag_by}
-use Rattle.region.specs.code.Kept.{good_in}
 use Rattle.region.proofs.FlagLaws.{all_flags}
 use Rattle.region.proofs.words.fill_flags.Goals as goal
 

@@ -5,7 +5,6 @@ use lib.ListN.{length}
 use Rattle.theory.proofs.Filling.{filled}
 use Rattle.theory.specs.Delay.{flag_by}
 use Rattle.region.specs.code.Kept.{good_in}
-use Rattle.region.proofs.FlagLaws.{all_flags}
 use Rattle.region.proofs.words.fill_flags.Given as goal
 
 abbrev pub invariant-loop-v : goal.invariant-loop-v

@@ -1,12 +1,6 @@
 -- `all_rounds` meets its contract. The ranks are those after round n, in which a node fell if n is over 1, and each further round leaves
 -- fewer nodes standing. Assumes nothing.
-use Prim.Native.Nat.{◌+◌, ◌≤◌}
-use mathlib.Core.Path.{◌≡◌}
-use lib.ListN.{length}
-use Rattle.theory.specs.Rounds.{ranks_after}
-use Rattle.walk.specs.code.Levels.{arena_of}
-use Rattle.rounds.specs.code.Falling.{last_round}
-use Rattle.rounds.proofs.RoundLaws.{standing, all_rounds}
+use Rattle.rounds.proofs.RoundLaws.{all_rounds}
 use Rattle.rounds.proofs.rounds.all_rounds.Goals as goal
 
 pub first_round-requires : goal.first_round-requires

@@ -6,7 +6,7 @@ use lib.ListN.{length}
 use Rattle.theory.specs.Rounds.{ranks_after}
 use Rattle.walk.specs.code.Levels.{arena_of}
 use Rattle.rounds.specs.code.Falling.{last_round}
-use Rattle.rounds.proofs.RoundLaws.{standing, all_rounds}
+use Rattle.rounds.proofs.RoundLaws.{standing}
 use Rattle.rounds.proofs.rounds.all_rounds.Given as goal
 
 abbrev pub invariant-loop-level : goal.invariant-loop-level

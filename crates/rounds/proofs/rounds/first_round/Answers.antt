@@ -1,9 +1,4 @@
 -- `first_round` meets its contract. The first ranks of the nodes passed are in place. Assumes nothing.
-use Prim.Native.Nat.{◌-◌, ◌≤◌}
-use mathlib.Core.Path.{◌≡◌}
-use lib.ListN.{length}
-use Rattle.rounds.specs.code.Falling.{first_rank}
-use Rattle.theory.proofs.Filling.{filled}
 use Rattle.rounds.proofs.RoundLaws.{filling}
 use Rattle.rounds.proofs.rounds.first_round.Goals as goal
 

@@ -4,7 +4,6 @@ use mathlib.Core.Path.{◌≡◌}
 use lib.ListN.{length}
 use Rattle.rounds.specs.code.Falling.{first_rank}
 use Rattle.theory.proofs.Filling.{filled}
-use Rattle.rounds.proofs.RoundLaws.{filling}
 use Rattle.rounds.proofs.rounds.first_round.Given as goal
 
 abbrev pub invariant-loop-k : goal.invariant-loop-k

@@ -1,14 +1,7 @@
 -- `round` meets its contract. The nodes passed have the next round's ranks, the others the old ones. Assumes nothing.
-use Prim.Native.Nat.{◌-◌, ◌≤◌}
-use mathlib.Core.Path.{◌≡◌, ◌∙◌, ap}
-use mathlib.Core.Logic.{⊎_elim}
+use mathlib.Core.Path.{◌∙◌, ap}
 use native.Mathlib.Omega.{arith}
 use lib.ListN.{length, length-set}
-use Rattle.theory.specs.Fold.{any_below}
-use Rattle.theory.specs.Rounds.{rank_in}
-use Rattle.walk.specs.code.Levels.{arena_of}
-use Rattle.rounds.specs.code.Falling.{falls_next}
-use Rattle.theory.proofs.Filling.{filled}
 use Rattle.rounds.proofs.RoundLaws.{round_fell, round_kept, any_fell, any_kept, rounding}
 use Rattle.rounds.proofs.rounds.round.Goals as goal
 use Rattle.rounds.proofs.rounds.round.Goals.{then-falls_now, else-falls_now}
@@ -19,20 +12,20 @@ loop-k-preserved c =
     let v = c.loop-k.invariant in
     let r = c.falls_now.ensures in
     elim c.if-falls_now.branch [
-        then-falls_now w ↦ (
-          v.0,
-          omega arith,
-          ap length w.ranks-is ∙ simp length-set v.2,
-          w.ranks-is ∙ round_fell _ _ _ _ i.2 i.3 v.3 r w.if-falls_now.true (omega arith),
-          w.any-is ∙ any_fell _ _ _ _ i.2 i.3 v.3 r w.if-falls_now.true,
-        )
+      | then-falls_now w ↦ (
+        v.0,
+        omega arith,
+        ap length w.ranks-is ∙ simp length-set v.2,
+        w.ranks-is ∙ round_fell _ _ _ _ i.2 i.3 v.3 r w.if-falls_now.true (omega arith),
+        w.any-is ∙ any_fell _ _ _ _ i.2 i.3 v.3 r w.if-falls_now.true,
+      )
       | else-falls_now w ↦ (
-          v.0,
-          omega arith,
-          ap length w.ranks-is ∙ v.2,
-          w.ranks-is ∙ round_kept _ _ _ _ i.2 i.3 v.3 r w.if-falls_now.false (omega arith),
-          w.any-is ∙ any_kept _ _ _ _ i.2 i.3 v.3 r v.4 w.if-falls_now.false,
-        )
+        v.0,
+        omega arith,
+        ap length w.ranks-is ∙ v.2,
+        w.ranks-is ∙ round_kept _ _ _ _ i.2 i.3 v.3 r w.if-falls_now.false (omega arith),
+        w.any-is ∙ any_kept _ _ _ _ i.2 i.3 v.3 r v.4 w.if-falls_now.false,
+      )
     ]
 
 pub loop-k-init : goal.loop-k-init

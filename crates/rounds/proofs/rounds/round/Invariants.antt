@@ -1,15 +1,12 @@
 -- `round` meets its contract. The nodes passed have the next round's ranks, the others the old ones. Assumes nothing.
 use Prim.Native.Nat.{◌-◌, ◌≤◌}
-use mathlib.Core.Path.{◌≡◌, ◌∙◌, ap}
-use mathlib.Core.Logic.{⊎_elim}
-use native.Mathlib.Omega.{arith}
-use lib.ListN.{length, length-set}
+use mathlib.Core.Path.{◌≡◌}
+use lib.ListN.{length}
 use Rattle.theory.specs.Fold.{any_below}
 use Rattle.theory.specs.Rounds.{rank_in}
 use Rattle.walk.specs.code.Levels.{arena_of}
 use Rattle.rounds.specs.code.Falling.{falls_next}
 use Rattle.theory.proofs.Filling.{filled}
-use Rattle.rounds.proofs.RoundLaws.{round_fell, round_kept, any_fell, any_kept, rounding}
 use Rattle.rounds.proofs.rounds.round.Given as goal
 
 abbrev pub invariant-loop-k : goal.invariant-loop-k

@@ -1,9 +1,4 @@
 -- `fill_marks` meets its contract. Assumes nothing.
-use Prim.Native.Nat.{◌-◌, ◌≤◌}
-use mathlib.Core.Path.{◌≡◌}
-use lib.ListN.{length}
-use Rattle.theory.proofs.Filling.{filled}
-use Rattle.rule.specs.code.Parts.{mark_at}
 use Rattle.rule.proofs.PartCode.{marking}
 use Rattle.rule.proofs.part.fill_marks.Goals as goal
 

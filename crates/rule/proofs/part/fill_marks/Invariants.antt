@@ -4,7 +4,6 @@ use mathlib.Core.Path.{◌≡◌}
 use lib.ListN.{length}
 use Rattle.theory.proofs.Filling.{filled}
 use Rattle.rule.specs.code.Parts.{mark_at}
-use Rattle.rule.proofs.PartCode.{marking}
 use Rattle.rule.proofs.part.fill_marks.Given as goal
 
 abbrev pub invariant-loop-k : goal.invariant-loop-k

@@ -1,13 +1,10 @@
 -- `unspoilt_part` meets its contract. The part has the bits of the actions passed. Assumes nothing.
 use Prim.Native.Nat.{◌-◌, ◌/◌, ◌^◌, ◌≤◌}
 use mathlib.Core.Path.{◌≡◌}
-use borrow.Author.Rules.{rules}
 use Rattle.theory.specs.Rounds.{mask_below}
 use Rattle.walk.specs.code.Levels.{arena_of}
 use Rattle.walk.specs.code.Walks.{fallen_by}
-use Rattle.region.proofs.MaskLaws.{bit_next}
 use Rattle.rule.specs.code.Parts.{stays}
-use Rattle.rule.proofs.PartCode.{part_next, left_next, parting}
 use Rattle.rule.proofs.part.unspoilt_part.Given as goal
 
 abbrev pub invariant-loop-c : goal.invariant-loop-c

@@ -1,13 +1,11 @@
 -- `sheet::form::contents_ok` meets its contract, by the laws of proofs/FormLaws.antt. The loop has passed k right entries, and body k must begin at `at`.
 -- Assumes nothing.
-use Prim.Native.Nat.{◌≤◌, ◌-◌}
+use Prim.Native.Nat.{◌≤◌}
 use mathlib.Core.Path.{◌≡◌}
 use mathlib.Core.Bool.{true}
 use lib.ListN.{length}
-use borrow.Author.Rules.{rules}
 use Rattle.theory.specs.Fold.{all_below}
 use Rattle.sheet.specs.Form.{place_of, entry_ok}
-use Rattle.sheet.proofs.FormLaws.{contents, entries_again, place_again}
 use Rattle.sheet.proofs.form.contents_ok.Given as goal
 
 abbrev pub invariant-loop-k : goal.invariant-loop-k

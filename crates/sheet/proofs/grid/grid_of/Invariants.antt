@@ -1,13 +1,9 @@
 -- `sheet::grid::grid_of` meets its contract, by the laws of proofs/GridLaws.antt. The loop has the grid of the first k lines.
 -- Assumes nothing.
-use Prim.Native.Nat.{◌+◌, ◌-◌, ◌*◌, ◌/◌, ◌≤◌}
-use mathlib.Core.Path.{◌≡◌, ◌∙◌}
-use mathlib.Core.Logic.{⊎_elim}
-use native.Mathlib.Omega.{arith}
+use Prim.Native.Nat.{◌/◌, ◌≤◌}
+use mathlib.Core.Path.{◌≡◌}
 use lib.ListN.{length}
-use borrow.Author.Rules.{rules}
 use Rattle.sheet.specs.code.Arrays.{grid_after}
-use Rattle.sheet.proofs.GridLaws.{grid_start, grid_line, grid_skip, grid_done}
 use Rattle.sheet.proofs.grid.grid_of.Given as goal
 
 abbrev pub invariant-loop-k : goal.invariant-loop-k

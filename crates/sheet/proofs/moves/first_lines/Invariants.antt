@@ -1,13 +1,11 @@
 -- `first_lines` meets its contract. The entries of the positions passed are in place. Assumes nothing.
-use Prim.Native.Nat.{◌-◌, ◌≤◌}
+use Prim.Native.Nat.{◌≤◌}
 use mathlib.Core.Path.{◌≡◌}
 use mathlib.Core.Bool.{true}
-use native.Mathlib.Omega.{arith}
 use lib.ListN.{length}
 use Rattle.theory.specs.Fold.{all_below}
 use Rattle.theory.proofs.Filling.{filled}
 use Rattle.sheet.specs.code.Arrays.{from_below, first_line, line_count, index_entries}
-use Rattle.sheet.proofs.MoveLaws.{index_inside, indexing}
 use Rattle.sheet.proofs.moves.first_lines.Given as goal
 
 abbrev pub invariant-loop-q : goal.invariant-loop-q

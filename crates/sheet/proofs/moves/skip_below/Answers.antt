@@ -1,9 +1,4 @@
 -- `skip_below` meets its contract. Every line passed is of a position below q. Assumes nothing.
-use Prim.Native.Nat.{◌-◌, ◌≤◌}
-use mathlib.Core.Path.{◌≡◌}
-use mathlib.Core.Bool.{true}
-use Rattle.theory.specs.Fold.{all_below}
-use Rattle.sheet.specs.code.Arrays.{from_below, line_count}
 use Rattle.sheet.proofs.MoveLaws.{skipping}
 use Rattle.sheet.proofs.moves.skip_below.Goals as goal
 

@@ -4,7 +4,6 @@ use mathlib.Core.Path.{◌≡◌}
 use mathlib.Core.Bool.{true}
 use Rattle.theory.specs.Fold.{all_below}
 use Rattle.sheet.specs.code.Arrays.{from_below, line_count}
-use Rattle.sheet.proofs.MoveLaws.{skipping}
 use Rattle.sheet.proofs.moves.skip_below.Given as goal
 
 abbrev pub invariant-loop-line : goal.invariant-loop-line

@@ -1,9 +1,6 @@
 -- `sheet::size::power` meets its contract, by the laws of proofs/SizeLaws.antt. The loop has r at the power i, not cut off.
 -- Assumes nothing.
-use Prim.Native.Nat.{◌≤◌, ◌-◌, ◌^◌}
-use mathlib.Core.Path.{◌≡◌}
 use native.Mathlib.Omega.{arith}
-use Rattle.sheet.specs.code.Steps.{most_power}
 use Rattle.sheet.proofs.SizeLaws.{powers, product_small}
 use Rattle.sheet.proofs.size.power.Goals as goal
 

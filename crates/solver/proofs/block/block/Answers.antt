@@ -1,13 +1,6 @@
 -- `block` meets its contract. What is left to block from here on is all that was to be blocked. Assumes nothing.
-use Prim.Native.Nat.{◌+◌, ◌-◌, ◌*◌, ◌≤◌}
-use mathlib.Core.Path.{◌≡◌, sym, ◌∙◌, ap}
-use mathlib.Core.Logic.{⊎_elim}
 use native.Mathlib.Omega.{arith}
-use lib.ListN.{length}
 use borrow.Author.Rules.{rules}
-use Rattle.walk.specs.code.Levels.{arena_of}
-use Rattle.solver.specs.code.Work.{work}
-use Rattle.solver.specs.code.Block.{blocks_to}
 use Rattle.solver.proofs.BlockCode.{rows_fit, blocks_start, blocks_again, blocks_end}
 use Rattle.solver.proofs.block.block.Goals as goal
 

@@ -1,14 +1,10 @@
 -- `block` meets its contract. What is left to block from here on is all that was to be blocked. Assumes nothing.
-use Prim.Native.Nat.{◌+◌, ◌-◌, ◌*◌, ◌≤◌}
-use mathlib.Core.Path.{◌≡◌, sym, ◌∙◌, ap}
-use mathlib.Core.Logic.{⊎_elim}
-use native.Mathlib.Omega.{arith}
+use Prim.Native.Nat.{◌-◌, ◌*◌, ◌≤◌}
+use mathlib.Core.Path.{◌≡◌}
 use lib.ListN.{length}
-use borrow.Author.Rules.{rules}
 use Rattle.walk.specs.code.Levels.{arena_of}
 use Rattle.solver.specs.code.Work.{work}
 use Rattle.solver.specs.code.Block.{blocks_to}
-use Rattle.solver.proofs.BlockCode.{rows_fit, blocks_start, blocks_again, blocks_end}
 use Rattle.solver.proofs.block.block.Given as goal
 
 abbrev pub invariant-loop-b : goal.invariant-loop-b

@@ -1,14 +1,5 @@
 -- `block_row` meets its contract. Assumes nothing.
-use Prim.Native.Nat.{◌+◌, ◌-◌, ◌*◌, ◌≤◌}
-use mathlib.Core.Path.{◌≡◌, sym, ◌∙◌, ap}
-use mathlib.Core.Logic.{⊎_elim}
-use native.Mathlib.Omega.{arith}
-use lib.ListN.{length}
-use borrow.Author.Rules.{rules}
-use Rattle.walk.specs.code.Levels.{arena_of}
-use Rattle.solver.specs.code.Work.{work}
-use Rattle.solver.specs.code.Block.{blocks_to}
-use Rattle.solver.proofs.BlockCode.{row_fits, row_whole, one_block}
+use Rattle.solver.proofs.BlockCode.{one_block}
 use Rattle.solver.proofs.block.block_row.Goals as goal
 
 pub blocked-requires : goal.blocked-requires

@@ -1,11 +1,8 @@
 -- `spoil_row` meets its contract. What is left from here on is all that was to be done. Assumes nothing.
-use Prim.Native.Nat.{◌+◌, ◌-◌, ◌*◌, ◌≤◌}
-use mathlib.Core.Path.{◌≡◌, sym, ◌∙◌, ap}
-use native.Mathlib.Omega.{arith}
+use Prim.Native.Nat.{◌+◌, ◌-◌, ◌≤◌}
+use mathlib.Core.Path.{◌≡◌}
 use lib.ListN.{length}
-use borrow.Author.Rules.{rules}
 use Rattle.solver.specs.code.Work.{work, spoil_row_to}
-use Rattle.solver.proofs.MarkLaws.{spoiling_rows, spoil_row_again}
 use Rattle.solver.proofs.block.spoil_row.Given as goal
 
 abbrev pub invariant-loop-i : goal.invariant-loop-i

@@ -1,9 +1,5 @@
 -- `search` meets its contract. Every delay below d wins, and nothing beyond the nodes of delay d has changed. Assumes nothing.
-use Prim.Native.Nat.{◌-◌}
-use lib.ListN.{length}
-use Rattle.sheet.specs.Size.{nodes_of}
-use Rattle.sheet.specs.code.Arrays.{view_of}
-use Rattle.solver.proofs.SearchLaws.{Searched, Beyond, upward}
+use Rattle.solver.proofs.SearchLaws.{upward}
 use Rattle.solver.proofs.delays.search.Goals as goal
 
 pub loop-nodes-init : goal.loop-nodes-init

@@ -3,7 +3,7 @@ use Prim.Native.Nat.{◌-◌}
 use lib.ListN.{length}
 use Rattle.sheet.specs.Size.{nodes_of}
 use Rattle.sheet.specs.code.Arrays.{view_of}
-use Rattle.solver.proofs.SearchLaws.{Searched, Beyond, upward}
+use Rattle.solver.proofs.SearchLaws.{Searched, Beyond}
 use Rattle.solver.proofs.delays.search.Given as goal
 
 abbrev pub invariant-loop-nodes : goal.invariant-loop-nodes

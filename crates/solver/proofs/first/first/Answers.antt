@@ -1,11 +1,4 @@
 -- `first` meets its contract. The nodes of the positions passed are placed. Assumes nothing.
-use Prim.Native.Nat.{◌-◌, ◌*◌, ◌≤◌}
-use mathlib.Core.Path.{◌≡◌, sym, ◌∙◌, ap}
-use native.Mathlib.Omega.{arith}
-use lib.ListN.{length}
-use borrow.Author.Rules.{rules}
-use Rattle.solver.specs.code.Work.{work}
-use Rattle.solver.specs.code.First.{Placed}
 use Rattle.solver.proofs.FirstLaws.{all_rows}
 use Rattle.solver.proofs.first.first.Goals as goal
 

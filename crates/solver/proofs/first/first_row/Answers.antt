@@ -1,12 +1,5 @@
 -- `first_row` meets its contract. The nodes passed are placed. Assumes nothing.
-use Prim.Native.Nat.{◌+◌, ◌-◌, ◌*◌, ◌≤◌}
-use mathlib.Core.Path.{◌≡◌, sym, ◌∙◌, ap}
 use native.Mathlib.Omega.{arith}
-use lib.ListN.{length}
-use borrow.Author.Rules.{rules}
-use Rattle.solver.specs.code.Work.{work}
-use Rattle.solver.specs.code.First.{Placed}
-use mathlib.Core.Logic.{⊎_elim}
 use Rattle.solver.proofs.FirstLaws.{row_node, row_le, tail_le, row_start, row_done, row_falls_lem, row_stands}
 use Rattle.solver.proofs.first.first_row.Goals as goal
 use Rattle.solver.proofs.first.first_row.Goals.{then-falls, else-falls}
@@ -154,14 +147,14 @@ loop-i-preserved c = let p = c.requires in
     let e = c.row_falls-falls.ensures in
     let m = c.row_mask-mask.ensures in
     elim c.if-falls.branch [
-        then-falls w ↦ (
-          omega arith,
-          rw (w.ranks-is, w.queue-is, w.last-is) (row_falls_lem _ _ _ _ l.i _ p.0 p.1 t l.invariant.1 e m w.if-falls.true),
-        )
+      | then-falls w ↦ (
+        omega arith,
+        rw (w.ranks-is, w.queue-is, w.last-is) (row_falls_lem _ _ _ _ l.i _ p.0 p.1 t l.invariant.1 e m w.if-falls.true),
+      )
       | else-falls w ↦ (
-          omega arith,
-          rw (w.ranks-is, w.queue-is, w.last-is) (row_stands _ _ _ _ l.i _ p.0 p.1 t l.invariant.1 e m w.if-falls.false),
-        )
+        omega arith,
+        rw (w.ranks-is, w.queue-is, w.last-is) (row_stands _ _ _ _ l.i _ p.0 p.1 t l.invariant.1 e m w.if-falls.false),
+      )
     ]
 
 pub returns : goal.returns

@@ -1,12 +1,9 @@
 -- `link_cells` meets its contract. The cells passed are linked. Assumes nothing.
 use Prim.Native.Nat.{◌-◌, ◌≤◌}
 use mathlib.Core.Path.{◌≡◌}
-use native.Mathlib.Omega.{arith}
 use lib.ListN.{length}
-use borrow.Author.Rules.{rules}
 use Rattle.solver.specs.code.Sizes.{most_cells}
 use Rattle.solver.specs.code.Chains.{Linked, cell_key}
-use Rattle.solver.proofs.ChainLaws.{linked_again, linked_done, cell_mark}
 use Rattle.solver.proofs.index.link_cells.Given as goal
 
 abbrev pub invariant-loop-i : goal.invariant-loop-i

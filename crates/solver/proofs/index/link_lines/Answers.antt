@@ -1,11 +1,6 @@
 -- `link_lines` meets its contract. The lines passed are linked. Assumes nothing.
-use Prim.Native.Nat.{◌-◌, ◌≤◌}
-use mathlib.Core.Path.{◌≡◌}
 use native.Mathlib.Omega.{arith}
-use lib.ListN.{length}
 use borrow.Author.Rules.{rules}
-use Rattle.sheet.specs.code.Arrays.{to_at, line_count}
-use Rattle.solver.specs.code.Chains.{Linked}
 use Rattle.solver.proofs.ChainLaws.{linked_again, linked_done, to_key}
 use Rattle.solver.proofs.index.link_lines.Goals as goal
 

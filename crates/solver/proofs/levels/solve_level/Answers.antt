@@ -1,5 +1,4 @@
 -- `solve_level` meets its contract. Assumes nothing.
-use borrow.Author.Rules.{rules}
 use Rattle.solver.proofs.LevelLaws.{level_rounds, level_worked, leveling}
 use Rattle.solver.proofs.levels.solve_level.Goals as goal
 

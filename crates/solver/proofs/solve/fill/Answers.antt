@@ -2,7 +2,6 @@
 use Prim.Native.Nat.{ℕ}
 use mathlib.Core.Path.{refl}
 use lib.ListN.{replicate, length-replicate}
-use borrow.Author.Rules.{rules}
 use Rattle.sheet.specs.Limits.{most_moves}
 use Rattle.solver.proofs.SolveLaws.{bodies_can, bodies_filled, none_linked, long_enough}
 use Rattle.solver.specs.code.Sizes.{most_cells}

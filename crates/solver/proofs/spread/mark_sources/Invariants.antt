@@ -1,13 +1,10 @@
 -- `mark_sources` meets its contract. What is to be marked from here on is all that was to be marked. Assumes nothing.
 use Prim.Native.Nat.{◌≤◌}
-use mathlib.Core.Path.{◌≡◌, sym, ◌∙◌}
-use native.Mathlib.Omega.{arith}
+use mathlib.Core.Path.{◌≡◌}
 use lib.ListN.{length}
-use borrow.Author.Rules.{rules}
 use Rattle.sheet.specs.Limits.{most_moves}
 use Rattle.solver.specs.code.Work.{work, marks_to}
 use Rattle.solver.specs.code.Spread.{sources}
-use Rattle.solver.proofs.SpreadLaws.{link_less, sources_next, sources_end}
 use Rattle.solver.proofs.spread.mark_sources.Given as goal
 
 abbrev pub invariant-loop-e : goal.invariant-loop-e

@@ -1,13 +1,7 @@
 -- `spread_even` meets its contract. What is to be marked from here on is all that was to be marked. Assumes nothing.
-use Prim.Native.Nat.{◌≤◌}
-use mathlib.Core.Path.{◌≡◌, sym, ◌∙◌, ap}
+use mathlib.Core.Path.{sym, ◌∙◌}
 use native.Mathlib.Omega.{arith}
-use lib.ListN.{length}
 use borrow.Author.Rules.{rules}
-use Rattle.sheet.specs.Limits.{most_moves}
-use Rattle.solver.specs.code.Work.{work, marks_to}
-use Rattle.solver.specs.code.Spread.{even_nodes}
-use Rattle.solver.specs.code.Seen.{Seen}
 use Rattle.solver.proofs.SpreadLaws.{link_less, even_again, even_end}
 use Rattle.solver.proofs.spread.spread_even.Goals as goal
 
@@ -36,7 +30,7 @@ loop-e-preserved c = (
       let d = c.requires.3 in
       even_again _ _ _ _ _ _ _ d l.e _ l.invariant.5 c.loop-e-test.true {-?up-} c.byte.ensures {-?up-} c.wide-t.ensures.0 {-?up-} c.mark_target-end.ensures.0 {-?up-}
       c.wide16-e.ensures.0),
-  c.mark_target-end.ensures.1 {-?up-},
+  c.mark_target-end.ensures.1, {-?up-}
 )
 
 pub returns : goal.returns

@@ -1,14 +1,11 @@
 -- `spread_even` meets its contract. What is to be marked from here on is all that was to be marked. Assumes nothing.
 use Prim.Native.Nat.{◌≤◌}
-use mathlib.Core.Path.{◌≡◌, sym, ◌∙◌, ap}
-use native.Mathlib.Omega.{arith}
+use mathlib.Core.Path.{◌≡◌}
 use lib.ListN.{length}
-use borrow.Author.Rules.{rules}
 use Rattle.sheet.specs.Limits.{most_moves}
 use Rattle.solver.specs.code.Work.{work, marks_to}
 use Rattle.solver.specs.code.Spread.{even_nodes}
 use Rattle.solver.specs.code.Seen.{Seen}
-use Rattle.solver.proofs.SpreadLaws.{link_less, even_again, even_end}
 use Rattle.solver.proofs.spread.spread_even.Given as goal
 
 abbrev pub invariant-loop-e : goal.invariant-loop-e

@@ -1,13 +1,10 @@
 -- `spread_odd` meets its contract. What is to be marked from here on is all that was to be marked. Assumes nothing.
 use Prim.Native.Nat.{◌≤◌}
-use mathlib.Core.Path.{◌≡◌, sym, ◌∙◌, ap}
-use native.Mathlib.Omega.{arith}
+use mathlib.Core.Path.{◌≡◌}
 use lib.ListN.{length}
-use borrow.Author.Rules.{rules}
 use Rattle.solver.specs.code.Sizes.{most_cells}
 use Rattle.solver.specs.code.Work.{work, marks_to}
 use Rattle.solver.specs.code.Spread.{odd_nodes}
-use Rattle.solver.proofs.SpreadLaws.{link_less, odd_again, odd_end}
 use Rattle.solver.proofs.spread.spread_odd.Given as goal
 
 abbrev pub invariant-loop-e : goal.invariant-loop-e

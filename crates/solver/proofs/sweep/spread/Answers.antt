@@ -15,9 +15,9 @@ spread_odd-requires c = let p = c.requires in
 
 pub returns-then-level : goal.returns-then-level
 returns-then-level c = let p = c.requires in (
-      spread_odd_is _ _ _ _ _ _ c.spot_at-spot.ensures.0 c.if-level.true c.head.ensures c.spread_odd.ensures,
-      seen_kept _ _ _ _ _ _ _ _ _ _ c.spread_odd.ensures p.5,
-    )
+  spread_odd_is _ _ _ _ _ _ c.spot_at-spot.ensures.0 c.if-level.true c.head.ensures c.spread_odd.ensures,
+  seen_kept _ _ _ _ _ _ _ _ _ _ c.spread_odd.ensures p.5,
+)
 
 pub spread_even-requires : goal.spread_even-requires
 spread_even-requires c = let p = c.requires in
@@ -26,6 +26,6 @@ spread_even-requires c = let p = c.requires in
 
 pub returns : goal.returns
 returns c = let p = c.requires in (
-      spread_even_is _ _ _ _ _ _ c.spot_at-spot.ensures.0 c.if-level.false c.head-2.ensures c.spread_even.ensures.0,
-      seen_level _ _ p.1 _ _ _ _ _ _ c.spot_at-spot.ensures.0 c.spread_even.ensures.1,
-    )
+  spread_even_is _ _ _ _ _ _ c.spot_at-spot.ensures.0 c.if-level.false c.head-2.ensures c.spread_even.ensures.0,
+  seen_level _ _ p.1 _ _ _ _ _ _ c.spot_at-spot.ensures.0 c.spread_even.ensures.1,
+)

@@ -1,13 +1,10 @@
 -- `sweep` meets its contract. What is left to sweep from here on is all that was to be swept. Assumes nothing.
-use Prim.Native.Nat.{◌-◌, ◌≤◌}
-use mathlib.Core.Path.{◌≡◌, sym, ◌∙◌, ap}
-use native.Mathlib.Omega.{arith}
+use Prim.Native.Nat.{◌-◌}
+use mathlib.Core.Path.{◌≡◌}
 use lib.ListN.{length}
-use borrow.Author.Rules.{rules}
 use Rattle.solver.specs.code.Work.{work}
 use Rattle.solver.specs.code.Seen.{Seen}
 use Rattle.solver.specs.code.Sweep.{index, sweep_to}
-use Rattle.solver.proofs.SweepLaws.{sweep_again, sweep_end}
 use Rattle.solver.proofs.sweep.sweep.Given as goal
 
 abbrev pub invariant-loop-at : goal.invariant-loop-at

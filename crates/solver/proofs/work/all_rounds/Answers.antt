@@ -1,14 +1,9 @@
 -- `all_rounds` meets its contract. The nodes of rank n are to be swept, and each sweep that is not the last has more nodes fallen. Assumes nothing.
-use Prim.Native.Nat.{◌-◌}
-use mathlib.Core.Path.{◌≡◌, sym, ◌∙◌, ap}
+use mathlib.Core.Path.{sym, ◌∙◌}
 use native.Mathlib.Omega.{arith}
-use lib.ListN.{length}
 use borrow.Author.Rules.{rules}
-use Rattle.walk.specs.code.Levels.{arena_of}
-use Rattle.solver.specs.code.Work.{work}
-use Rattle.solver.specs.code.Seen.{Seen}
 use Rattle.solver.proofs.SeenLaws.{seen_none}
-use Rattle.solver.proofs.WorkLaws.{Rounding, start_lent, start_rounds, round_lent, round_queue, round_few, round_more, round_next, round_over}
+use Rattle.solver.proofs.WorkLaws.{start_lent, start_rounds, round_lent, round_queue, round_few, round_more, round_next, round_over}
 use Rattle.solver.proofs.WorkLaws.{next_inside, next_ranks_lem, next_masks, next_queue}
 use Rattle.solver.proofs.work.all_rounds.Goals as goal
 
@@ -21,13 +16,13 @@ block-tail-requires c = let p = c.requires in
 
 pub loop-hi-init : goal.loop-hi-init
 loop-hi-init c = let p = c.requires in (
-      search rules,
-      search rules,
-      search rules,
-      search rules,
-      start_rounds _ _ _ _ _ _ _ _ _ _ p.0 _ c.full_mask.ensures c.first-hi.ensures c.block-tail.ensures,
-      seen_none _ _ _ _ _ _ _ p.4,
-    )
+  search rules,
+  search rules,
+  search rules,
+  search rules,
+  start_rounds _ _ _ _ _ _ _ _ _ _ p.0 _ c.full_mask.ensures c.first-hi.ensures c.block-tail.ensures,
+  seen_none _ _ _ _ _ _ _ p.4,
+)
 
 pub sweep-end-requires : goal.sweep-end-requires
 sweep-end-requires c = let p = c.requires.0 in

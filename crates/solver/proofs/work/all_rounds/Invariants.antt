@@ -1,15 +1,11 @@
 -- `all_rounds` meets its contract. The nodes of rank n are to be swept, and each sweep that is not the last has more nodes fallen. Assumes nothing.
 use Prim.Native.Nat.{◌-◌}
-use mathlib.Core.Path.{◌≡◌, sym, ◌∙◌, ap}
-use native.Mathlib.Omega.{arith}
+use mathlib.Core.Path.{◌≡◌}
 use lib.ListN.{length}
-use borrow.Author.Rules.{rules}
 use Rattle.walk.specs.code.Levels.{arena_of}
 use Rattle.solver.specs.code.Work.{work}
 use Rattle.solver.specs.code.Seen.{Seen}
-use Rattle.solver.proofs.SeenLaws.{seen_none}
-use Rattle.solver.proofs.WorkLaws.{Rounding, start_lent, start_rounds, round_lent, round_queue, round_few, round_more, round_next, round_over}
-use Rattle.solver.proofs.WorkLaws.{next_inside, next_ranks_lem, next_masks, next_queue}
+use Rattle.solver.proofs.WorkLaws.{Rounding}
 use Rattle.solver.proofs.work.all_rounds.Given as goal
 
 abbrev pub invariant-loop-hi : goal.invariant-loop-hi

@@ -1,9 +1,7 @@
 -- `work` meets its contract. Assumes nothing.
 use Prim.Native.Nat.{ℕ}
 use mathlib.Core.Path.{sym}
-use native.Mathlib.Omega.{arith}
 use lib.ListN.{length-replicate, get_or-replicate}
-use borrow.Author.Rules.{rules}
 use Rattle.sheet.specs.Limits.{most_nodes}
 use Rattle.solver.proofs.SeenLaws.{clear_part}
 use Rattle.solver.proofs.WorkLaws.{queue_part}
@@ -17,9 +15,9 @@ slice_bounds-all_rounds-end-2 c = queue_part _ _ (length-replicate {A = ℕ} mos
 
 pub all_rounds-requires : goal.all_rounds-requires
 all_rounds-requires c = let p = c.requires in (
-      p.0,
-      p.1,
-      p.2,
-      sym (queue_part _ _ (length-replicate {A = ℕ} most_nodes 0) p.0.sized.few_nodes),
-      clear_part _ _ (length-replicate {A = ℕ} most_nodes 0) (λ i h. get_or-replicate {A = ℕ} most_nodes i 0 0 h) p.0.sized.few_nodes,
-    )
+  p.0,
+  p.1,
+  p.2,
+  sym (queue_part _ _ (length-replicate {A = ℕ} most_nodes 0) p.0.sized.few_nodes),
+  clear_part _ _ (length-replicate {A = ℕ} most_nodes 0) (λ i h. get_or-replicate {A = ℕ} most_nodes i 0 0 h) p.0.sized.few_nodes,
+)

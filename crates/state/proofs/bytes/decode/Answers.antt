@@ -1,6 +1,5 @@
 -- `decode` meets its contract, by the laws of ByteLaws.antt. Assumes nothing.
 use Rattle.state.proofs.ByteLaws.{wholes}
-use borrow.Author.Rules.{rules}
 use Rattle.state.proofs.bytes.decode.Goals as goal
 
 pub turn_from-turn-requires : goal.turn_from-turn-requires

@@ -1,6 +1,5 @@
 -- `encode` meets its contract, by the laws of ByteLaws.antt. Assumes nothing.
 use Rattle.state.proofs.ByteLaws.{wholes}
-use borrow.Author.Rules.{rules}
 use Rattle.state.proofs.bytes.encode.Goals as goal
 
 pub low_byte-requires : goal.low_byte-requires

@@ -1,6 +1,5 @@
 -- `window_in` meets its contract, by the laws of ByteLaws.antt. Assumes nothing.
 use Rattle.state.proofs.ByteLaws.{wholes}
-use borrow.Author.Rules.{rules}
 use Rattle.state.proofs.bytes.window_in.Goals as goal
 
 pub slot_from-s0-requires : goal.slot_from-s0-requires

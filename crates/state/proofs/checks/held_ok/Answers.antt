@@ -1,9 +1,4 @@
 -- `held_ok` meets its contract: at the head of its loop every action before k passed. Assumes nothing.
-use Prim.Native.Nat.{◌≤◌, ◌-◌}
-use mathlib.Core.Path.{◌≡◌}
-use mathlib.Core.Bool.{true}
-use Rattle.theory.specs.Fold.{all_below}
-use Rattle.state.specs.State.{held_at}
 use Rattle.state.proofs.StateLaws.{check_laws}
 use Rattle.state.proofs.checks.held_ok.Goals as goal
 

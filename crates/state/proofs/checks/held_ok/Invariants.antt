@@ -4,7 +4,6 @@ use mathlib.Core.Path.{◌≡◌}
 use mathlib.Core.Bool.{true}
 use Rattle.theory.specs.Fold.{all_below}
 use Rattle.state.specs.State.{held_at}
-use Rattle.state.proofs.StateLaws.{check_laws}
 use Rattle.state.proofs.checks.held_ok.Given as goal
 
 abbrev pub invariant-loop-k : goal.invariant-loop-k

@@ -1,9 +1,4 @@
 -- `window_ok` meets its contract: at the head of its loop every slot before k passed. Assumes nothing.
-use Prim.Native.Nat.{◌≤◌, ◌-◌}
-use mathlib.Core.Path.{◌≡◌}
-use mathlib.Core.Bool.{true}
-use Rattle.theory.specs.Fold.{all_below}
-use Rattle.state.specs.State.{within_at}
 use Rattle.state.proofs.StateLaws.{check_laws}
 use Rattle.state.proofs.checks.window_ok.Goals as goal
 

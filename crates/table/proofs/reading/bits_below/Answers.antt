@@ -1,12 +1,5 @@
 -- `bits_below` meets its contract: at the head of its loop `all` is below 2 ^ n exactly if every byte before k is. Assumes nothing.
-use Prim.Native.Nat.{◌^◌, ◌-◌, ◌≤◌}
-use mathlib.Core.Path.{◌≡◌}
-use native.Mathlib.Omega.{arith}
-use lib.Dec.{ltb}
-use lib.ListN.{length}
-use Rattle.theory.specs.Fold.{all_below}
-use Rattle.table.specs.TableSheet.{below_at}
-use Rattle.table.proofs.TableLaws.{bits, bits_all}
+use Rattle.table.proofs.TableLaws.{bits}
 use Rattle.table.proofs.reading.bits_below.Goals as goal
 
 pub returns-then-b-eq0 : goal.returns-then-b-eq0

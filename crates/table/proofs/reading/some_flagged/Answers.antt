@@ -1,11 +1,4 @@
 -- `some_flagged` meets its contract: at the head of its loop no word before v is flagged. Assumes nothing.
-use Prim.Native.Nat.{◌≤◌, ◌-◌}
-use mathlib.Core.Path.{◌≡◌}
-use mathlib.Core.Bool.{false}
-use mathlib.Core.List.{[]}
-use lib.ListN.{length}
-use Rattle.theory.specs.Fold.{any_below}
-use Rattle.theory.specs.Table.{flagged}
 use Rattle.table.proofs.TableLaws.{flags}
 use Rattle.table.proofs.reading.some_flagged.Goals as goal
 

@@ -6,7 +6,6 @@ use mathlib.Core.List.{[]}
 use lib.ListN.{length}
 use Rattle.theory.specs.Fold.{any_below}
 use Rattle.theory.specs.Table.{flagged}
-use Rattle.table.proofs.TableLaws.{flags}
 use Rattle.table.proofs.reading.some_flagged.Given as goal
 
 abbrev pub invariant-loop-v : goal.invariant-loop-v

@@ -1,10 +1,6 @@
 -- `put_shorts` meets its contract: what is left to write at the head of its loop gives the whole. Assumes nothing.
-use borrow.Author.Rules.{rules}
-use Prim.Native.Nat.{◌-◌}
-use mathlib.Core.Path.{◌≡◌}
-use lib.ListN.{length}
-use Rattle.text.proofs.Page.{begins, goes_on, ends, Along}
-use Rattle.text.specs.Numbers.{short_at, shorts_text}
+use Rattle.text.proofs.Page.{begins, goes_on, ends}
+use Rattle.text.specs.Numbers.{shorts_text}
 use Rattle.text.proofs.bytes.put_shorts.Goals as goal
 
 pub returns : goal.returns

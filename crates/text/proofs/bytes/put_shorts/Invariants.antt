@@ -1,10 +1,9 @@
 -- `put_shorts` meets its contract: what is left to write at the head of its loop gives the whole. Assumes nothing.
-use borrow.Author.Rules.{rules}
 use Prim.Native.Nat.{◌-◌}
 use mathlib.Core.Path.{◌≡◌}
 use lib.ListN.{length}
-use Rattle.text.proofs.Page.{begins, goes_on, ends, Along}
-use Rattle.text.specs.Numbers.{short_at, shorts_text}
+use Rattle.text.proofs.Page.{Along}
+use Rattle.text.specs.Numbers.{short_at}
 use Rattle.text.proofs.bytes.put_shorts.Given as goal
 
 abbrev pub invariant-loop-k : goal.invariant-loop-k

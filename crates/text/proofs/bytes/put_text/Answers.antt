@@ -1,9 +1,5 @@
 -- `put_text` meets its contract: what is left to write at the head of its loop gives the whole. Assumes nothing.
-use borrow.Author.Rules.{rules}
-use Prim.Native.Nat.{◌-◌}
-use mathlib.Core.Path.{◌≡◌}
-use lib.ListN.{length}
-use Rattle.text.proofs.Page.{begins, goes_on, ends, Along, byte_at, text_is}
+use Rattle.text.proofs.Page.{begins, goes_on, ends, byte_at, text_is}
 use Rattle.text.proofs.bytes.put_text.Goals as goal
 
 pub loop-k-preserved : goal.loop-k-preserved

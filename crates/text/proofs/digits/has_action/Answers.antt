@@ -1,6 +1,5 @@
 -- `has_action` meets its contract. Assumes nothing.
 use Rattle.text.proofs.Fields.{mask_laws}
-use borrow.Author.Rules.{rules}
 use Rattle.text.proofs.digits.has_action.Goals as goal
 
 pub without_last-requires : goal.without_last-requires

@@ -1,6 +1,5 @@
 -- `put_action` meets its contract. Assumes nothing.
 use Rattle.text.proofs.Fields.{mask_laws}
-use borrow.Author.Rules.{rules}
 use Rattle.text.proofs.digits.put_action.Goals as goal
 
 pub has_action-requires : goal.has_action-requires

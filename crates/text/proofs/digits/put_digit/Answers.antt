@@ -1,6 +1,5 @@
 -- `put_digit` meets its contract. Assumes nothing.
 use Rattle.text.proofs.Fields.{digit_laws}
-use borrow.Author.Rules.{rules}
 use Rattle.text.proofs.digits.put_digit.Goals as goal
 
 pub without_last-shown-requires : goal.without_last-shown-requires

@@ -1,8 +1,6 @@
 -- `put_set` meets its contract: what is left to write at the head of its loop gives the whole. Assumes nothing.
-use Prim.Native.Nat.{◌-◌}
-use Rattle.text.proofs.Page.{begins, goes_on, ends, Along}
-use Rattle.text.specs.Fields.{action_text, set_text}
-use borrow.Author.Rules.{rules}
+use Rattle.text.proofs.Page.{begins, goes_on, ends}
+use Rattle.text.specs.Fields.{set_text}
 use Rattle.text.proofs.digits.put_set.Goals as goal
 
 pub returns : goal.returns

@@ -1,9 +1,6 @@
 -- `put_word` meets its contract: what is left to write at the head of its loop gives the whole. Assumes nothing.
-use Prim.Native.Nat.{◌-◌}
-use Rattle.text.proofs.Page.{begins, goes_on, ends, Along}
+use Rattle.text.proofs.Page.{begins, goes_on, ends}
 use Rattle.text.proofs.Fields.{digit_laws, word_digits}
-use Rattle.text.specs.Fields.{digit_text}
-use borrow.Author.Rules.{rules}
 use Rattle.text.proofs.digits.put_word.Goals as goal
 
 pub returns : goal.returns

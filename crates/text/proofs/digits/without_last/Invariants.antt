@@ -1,8 +1,6 @@
 -- `without_last` meets its contract: dividing what is left k times fewer gives the whole. Assumes nothing.
 use Prim.Native.Nat.{◌-◌, ◌/◌, ◌^◌, ◌≤◌}
 use mathlib.Core.Path.{◌≡◌}
-use borrow.Author.Rules.{rules}
-use Rattle.text.proofs.Fields.{last_start, last_again, last_done}
 use Rattle.text.proofs.digits.without_last.Given as goal
 
 abbrev pub invariant-loop : goal.invariant-loop

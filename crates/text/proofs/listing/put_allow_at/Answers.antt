@@ -1,6 +1,5 @@
 -- `put_allow_at` meets its contract. Assumes nothing.
 use Rattle.text.proofs.Lines.{entry_laws}
-use borrow.Author.Rules.{rules}
 use Rattle.text.proofs.listing.put_allow_at.Goals as goal
 
 pub wide-mask-requires : goal.wide-mask-requires

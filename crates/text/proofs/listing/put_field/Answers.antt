@@ -1,6 +1,5 @@
 -- `put_field` meets its contract. Assumes nothing.
 use Rattle.text.proofs.Fields.{field_laws}
-use borrow.Author.Rules.{rules}
 use Rattle.text.proofs.listing.put_field.Goals as goal
 
 pub put_text-to-requires : goal.put_text-to-requires

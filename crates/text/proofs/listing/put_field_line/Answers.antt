@@ -1,6 +1,5 @@
 -- `put_field_line` meets its contract. Assumes nothing.
 use Rattle.text.proofs.Lines.{line_laws}
-use borrow.Author.Rules.{rules}
 use Rattle.text.proofs.listing.put_field_line.Goals as goal
 
 pub put_field-to-requires : goal.put_field-to-requires

@@ -1,6 +1,5 @@
 -- `put_head` meets its contract: the four writes, each by its own contract. Assumes nothing.
 use Rattle.text.proofs.Lines.{head_is}
-use borrow.Author.Rules.{rules}
 use Rattle.text.proofs.listing.put_head.Goals as goal
 
 pub returns : goal.returns

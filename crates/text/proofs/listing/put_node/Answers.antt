@@ -1,6 +1,5 @@
 -- `put_node` meets its contract. Assumes nothing.
 use Rattle.text.proofs.Fields.{field_laws}
-use borrow.Author.Rules.{rules}
 use Rattle.text.proofs.listing.put_node.Goals as goal
 
 pub put_position-to-requires : goal.put_position-to-requires

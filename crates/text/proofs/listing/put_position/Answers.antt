@@ -1,6 +1,5 @@
 -- `put_position` meets its contract. Assumes nothing.
 use Rattle.text.proofs.Fields.{field_laws}
-use borrow.Author.Rules.{rules}
 use Rattle.text.proofs.listing.put_position.Goals as goal
 
 pub without_last-requires : goal.without_last-requires

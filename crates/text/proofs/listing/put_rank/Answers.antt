@@ -1,6 +1,5 @@
 -- `put_rank` meets its contract. Assumes nothing.
 use Rattle.text.proofs.Lines.{line_laws}
-use borrow.Author.Rules.{rules}
 use Rattle.text.proofs.listing.put_rank.Goals as goal
 
 pub put_node-name-requires : goal.put_node-name-requires

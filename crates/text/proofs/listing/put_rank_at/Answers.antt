@@ -1,6 +1,5 @@
 -- `put_rank_at` meets its contract. Assumes nothing.
 use Rattle.text.proofs.Lines.{entry_laws}
-use borrow.Author.Rules.{rules}
 use Rattle.text.proofs.listing.put_rank_at.Goals as goal
 
 pub wide16-rank-requires : goal.wide16-rank-requires

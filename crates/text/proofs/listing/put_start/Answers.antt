@@ -1,6 +1,5 @@
 -- `put_start` meets its contract. Assumes nothing.
 use Rattle.text.proofs.Lines.{line_laws}
-use borrow.Author.Rules.{rules}
 use Rattle.text.proofs.listing.put_start.Goals as goal
 
 pub put_text-w-requires : goal.put_text-w-requires

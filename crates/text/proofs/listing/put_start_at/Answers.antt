@@ -1,6 +1,5 @@
 -- `put_start_at` meets its contract. Assumes nothing.
 use Rattle.text.proofs.Lines.{entry_laws}
-use borrow.Author.Rules.{rules}
 use Rattle.text.proofs.listing.put_start_at.Goals as goal
 
 pub put_start-requires : goal.put_start-requires

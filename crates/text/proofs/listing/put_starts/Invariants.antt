@@ -1,10 +1,9 @@
 -- `put_starts` meets its contract: what is left to write at the head of its loop gives the whole. Assumes nothing.
 use Prim.Native.Nat.{◌-◌}
 use mathlib.Core.Path.{◌≡◌}
-use Rattle.text.proofs.Page.{begins, goes_on, ends, Along}
+use Rattle.text.proofs.Page.{Along}
 use lib.ListN.{length}
-use Rattle.text.specs.Lines.{start_at, start_lines}
-use borrow.Author.Rules.{rules}
+use Rattle.text.specs.Lines.{start_at}
 use Rattle.text.proofs.listing.put_starts.Given as goal
 
 abbrev pub invariant-loop-k : goal.invariant-loop-k

@@ -1,12 +1,5 @@
 -- `all_spoilt_at` meets its contract. Every action passed is spoilt; no line passed spoils the action at hand, so that what is left to
 -- search has the same last one. Assumes nothing.
-use Prim.Native.Nat.{◌-◌, ◌≤◌}
-use mathlib.Core.Path.{◌≡◌}
-use mathlib.Core.Bool.{true}
-use Rattle.theory.specs.Fold.{all_below, last_with, found}
-use Rattle.theory.specs.Rounds.{spoilt_by}
-use Rattle.walk.specs.code.Levels.{arena_of}
-use Rattle.walk.specs.code.Walks.{fallen_by, spoils_on}
 use Rattle.walk.proofs.WalkLaws.{walks}
 use Rattle.walk.proofs.walk.all_spoilt_at.Goals as goal
 

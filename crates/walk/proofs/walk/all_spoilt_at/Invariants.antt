@@ -7,7 +7,6 @@ use Rattle.theory.specs.Fold.{all_below, last_with, found}
 use Rattle.theory.specs.Rounds.{spoilt_by}
 use Rattle.walk.specs.code.Levels.{arena_of}
 use Rattle.walk.specs.code.Walks.{fallen_by, spoils_on}
-use Rattle.walk.proofs.WalkLaws.{walks}
 use Rattle.walk.proofs.walk.all_spoilt_at.Given as goal
 
 abbrev pub invariant-moves : goal.invariant-moves

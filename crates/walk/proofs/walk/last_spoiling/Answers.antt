@@ -1,8 +1,4 @@
 -- `last_spoiling` meets its contract. No line passed spoils the choice: what is left to search has the same last one. Assumes nothing.
-use Prim.Native.Nat.{◌≤◌}
-use mathlib.Core.Path.{◌≡◌}
-use Rattle.theory.specs.Fold.{last_with}
-use Rattle.walk.specs.code.Walks.{fallen_by, spoils_on}
 use Rattle.walk.proofs.WalkLaws.{searching}
 use Rattle.walk.proofs.walk.last_spoiling.Goals as goal
 

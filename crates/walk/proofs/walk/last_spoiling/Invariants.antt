@@ -3,7 +3,6 @@ use Prim.Native.Nat.{◌≤◌}
 use mathlib.Core.Path.{◌≡◌}
 use Rattle.theory.specs.Fold.{last_with}
 use Rattle.walk.specs.code.Walks.{fallen_by, spoils_on}
-use Rattle.walk.proofs.WalkLaws.{searching}
 use Rattle.walk.proofs.walk.last_spoiling.Given as goal
 
 abbrev pub invariant-loop-line : goal.invariant-loop-line

@@ -1,5 +1,4 @@
 -- `fit` meets its contract, by the laws of WriteLaws.antt. Assumes nothing.
-use borrow.Author.Rules.{rules}
 use Rattle.writer.proofs.WriteLaws.{fitting}
 use Rattle.writer.proofs.writing.fit.Goals as goal
 

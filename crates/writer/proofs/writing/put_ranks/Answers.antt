@@ -1,5 +1,4 @@
 -- `put_ranks` meets its contract, by the laws of WriteLaws.antt. Assumes nothing.
-use borrow.Author.Rules.{rules}
 use Rattle.writer.proofs.WriteLaws.{rank_is}
 use Rattle.writer.proofs.writing.put_ranks.Goals as goal
 

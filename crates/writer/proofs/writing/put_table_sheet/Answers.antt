@@ -1,5 +1,4 @@
 -- `put_table_sheet` meets its contract, by the laws of WriteLaws.antt. Assumes nothing.
-use borrow.Author.Rules.{rules}
 use Rattle.writer.proofs.WriteLaws.{table_written}
 use Rattle.writer.proofs.writing.put_table_sheet.Goals as goal
 
