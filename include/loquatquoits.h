@@ -1,7 +1,7 @@
 /*
  * Loquatquoits: verified control under delay, for C and C++ callers.
  *
- * Build the library with `rt staticlib capi` and link target/staticlib/libcapi.a; besides that it needs memcpy and memset. Every function
+ * Build the library with `.ci/build` and link target/staticlib/libcapi.a; besides that it needs memcpy and memset. Every function
  * is total: any bytes and any lengths get a result or a refusal. It answers 0 where it accepts, and else the refusal's number:
  *
  *   reading a yard sheet

@@ -35,22 +35,22 @@ pub record Least (G : Game) (asked m : ℕ) : Type 0 where
   pub below : (j : ℕ) → j < m → Winnable G j
 
 -- the table and the ranks that two buffers hold for delay d
-pub record TableFor (G : Game) (d : ℕ) (mask-buffer rank-buffer masks-now ranks-now : List ℕ) : Type 1 where
+pub record TableFor (G : Game) (d : ℕ) (mask_buffer rank_buffer masks_now ranks_now : List ℕ) : Type 1 where
   -- the kept nodes are the largest winning set
   pub kept_wins : WinningSet G d (IsKept G d)
   pub kept_largest : (S : ℕ → Type 0) → WinningSet G d S → (k : ℕ) → (arena G d).right k ≡ true → S k → IsKept G d k
   -- a node's mask allows exactly the actions that stay in it
   pub masks : (k c : ℕ) → k < (arena G d).nodes
-      → (bit (get_or masks-now k 0) c ≡ true) ↔ (IsKept G d k × (c < G.actions) × StaysIn G d (IsKept G d) k c)
+      → (bit (get_or masks_now k 0) c ≡ true) ↔ (IsKept G d k × (c < G.actions) × StaysIn G d (IsKept G d) k c)
   -- a fallen node's rank is its round
-  pub ranks : (n k : ℕ) → k < (arena G d).nodes → (get_or ranks-now k 0 ≡ suc n) ↔ FallsIn G d n k
+  pub ranks : (n k : ℕ) → k < (arena G d).nodes → (get_or ranks_now k 0 ≡ suc n) ↔ FallsIn G d n k
   -- entries beyond the nodes are as they came in
-  pub masks_beyond : (k : ℕ) → (arena G d).nodes ≤ k → get_or masks-now k 0 ≡ get_or mask-buffer k 0
-  pub ranks_beyond : (k : ℕ) → (arena G d).nodes ≤ k → get_or ranks-now k 0 ≡ get_or rank-buffer k 0
+  pub masks_beyond : (k : ℕ) → (arena G d).nodes ≤ k → get_or masks_now k 0 ≡ get_or mask_buffer k 0
+  pub ranks_beyond : (k : ℕ) → (arena G d).nodes ≤ k → get_or ranks_now k 0 ≡ get_or rank_buffer k 0
 
-pub record Demand2 (s : List ℕ) (a : Solved) (mask-buffer rank-buffer : List ℕ) : Type 1 where
+pub record Demand2 (s : List ℕ) (a : Solved) (mask_buffer rank_buffer : List ℕ) : Type 1 where
   pub winning : (a.verdict ≡ wins) ↔ Winnable (game_of s) (delay_of s)
   pub losing : (m : ℕ) → a.verdict ≡ losing m → Least (game_of s) (delay_of s) m
   -- for the asked delay where it wins, else for m
-  pub table : TableFor (game_of s) (solved_delay (delay_of s) a.verdict) mask-buffer rank-buffer (masks_left s (accepted a) mask-buffer)
-      (ranks_left s (accepted a) rank-buffer)
+  pub table : TableFor (game_of s) (solved_delay (delay_of s) a.verdict) mask_buffer rank_buffer (masks_left s (accepted a) mask_buffer)
+      (ranks_left s (accepted a) rank_buffer)

@@ -49,11 +49,11 @@ solved_text s (refused n) = refused_line n
 solved_text s (accepted a) = game_text (game_of s) (delay_of s) a.verdict
 
 unfoldable pub text_with : List ℕ → ℕ → ℕ → List ℕ
-text_with s masksRoom ranksRoom = cond (ltb most_input (length s)) (refused_line 1) (solved_text s (solve_answer s masksRoom ranksRoom))
+text_with s masks_room ranks_room = cond (ltb most_input (length s)) (refused_line 1) (solved_text s (solve_answer s masks_room ranks_room))
 
 -- the buffers after it: input that is too long is not solved
 unfoldable pub masks_with : List ℕ → ℕ → List ℕ → List ℕ
-masks_with s ranksRoom buffer = cond (ltb most_input (length s)) buffer (masks_left s (solve_answer s (length buffer) ranksRoom) buffer)
+masks_with s ranks_room buffer = cond (ltb most_input (length s)) buffer (masks_left s (solve_answer s (length buffer) ranks_room) buffer)
 
 unfoldable pub ranks_with : List ℕ → ℕ → List ℕ → List ℕ
-ranks_with s masksRoom buffer = cond (ltb most_input (length s)) buffer (ranks_left s (solve_answer s masksRoom (length buffer)) buffer)
+ranks_with s masks_room buffer = cond (ltb most_input (length s)) buffer (ranks_left s (solve_answer s masks_room (length buffer)) buffer)

@@ -47,8 +47,8 @@ pub record MadeParts (s : List ℕ) (output_room : ℕ) (x : Made) : Type 0 wher
   pub made : x ≡ made_of (game_of s) (delay_of s) (answer (game_of s) (delay_of s))
   pub room : output_size (game_of s) (delay_of s) ≤ output_room
 
-module _ (s : List ℕ) (masksRoom ranksRoom output_room : ℕ) where
-  pub made_parts : (x : Made) → make_answer s masksRoom ranksRoom output_room ≡ accepted x → MadeParts s output_room x
+module _ (s : List ℕ) (masks_room ranks_room output_room : ℕ) where
+  pub made_parts : (x : Made) → make_answer s masks_room ranks_room output_room ≡ accepted x → MadeParts s output_room x
   unfolding make_answer solve_answer
   made_parts x e =
       let a = accepted_on _ _ e in
@@ -64,7 +64,7 @@ module _ (s : List ℕ) (masksRoom ranksRoom output_room : ℕ) where
         room = leb-true _ _ c.0;
       }
 
-  pub making_won : (t : List ℕ) → make_answer s masksRoom ranksRoom output_room ≡ accepted (won t) → Won s t
+  pub making_won : (t : List ℕ) → make_answer s masks_room ranks_room output_room ≡ accepted (won t) → Won s t
   making_won t e =
       let m = made_parts (won t) e in
       let r = sheet_ranged s m.layout m.reads in

@@ -74,7 +74,7 @@ module _ (s : List ℕ) (l : Layout) (M R O : ℕ) (e : read_answer s ≡ accept
               reads = e;
               masks_room = leb-true _ _ (both_left _ _ t);
               ranks_room = leb-true _ _ (both_right _ _ t);
-              output_room_lem = leb-true _ _ u;
+              output_room = leb-true _ _ u;
             };
         refuses = λ h. absurd (h (ex ∙ rw (t, u)));
       })

@@ -77,15 +77,15 @@ module _ (s : List ℕ) (l : Layout) (M R O : List ℕ) (ready : Ready s l (leng
 
   pub make_is : make_answer s (length M) (length R) (length O) ≡ accepted (made_of G d (answer G d))
   unfolding make_answer on_accepted
-  make_is = rw solve_is (check_passed _ _ _ (le-leb _ _ ready.output_room_lem))
+  make_is = rw solve_is (check_passed _ _ _ (le-leb _ _ ready.output_room))
 
   early : (m : ℕ) → answer G d ≡ losing m → m ≤ d
   early m e = (answer_least G ranged.legal d m e).asked
 
   made_fits : (v : Verdict) → answer G d ≡ v → length (bytes_in (made_of G d v)) ≤ length O
   unfolding made_of
-  made_fits wins e = omega (arith, table_fits G d, ready.output_room_lem)
-  made_fits (losing m) e = omega (arith, ranks_fit G ranged.legal m d (early m e), ready.output_room_lem)
+  made_fits wins e = omega (arith, table_fits G d, ready.output_room)
+  made_fits (losing m) e = omega (arith, ranks_fit G ranged.legal m d (early m e), ready.output_room)
 
   -- y is the solver's answer, M' and R' what it left in the buffers
   module _ (y : Solution) (ey : solution_means y ≡ solve_answer s (length M) (length R)) (M' R' : List ℕ)

@@ -38,10 +38,10 @@ output_size G d = 19 + initial_words G d + 2 * (arena G d).nodes
 
 -- "Making a sheet. 1 to 8; then 9: the output area is shorter"
 unfoldable pub make_answer : List ℕ → ℕ → ℕ → ℕ → Answer Made
-make_answer s masksRoom ranksRoom output_room =
+make_answer s masks_room ranks_room output_room =
     let G = game_of s in
     let d = delay_of s in
-    on_accepted (solve_answer s masksRoom ranksRoom)
+    on_accepted (solve_answer s masks_room ranks_room)
     (λ a. check (leb (output_size G d) output_room) 9 (accepted (made_of G d a.verdict)))
 
 -- a buffer after making: "the areas as in solving" where it was accepted; a refusal "alters no lent area"

@@ -20,12 +20,12 @@ pub record Solved : Type 0 where
 
 -- "1 to 7; then 8: the mask area or the rank area has fewer entries than positions × A^L at the asked lag"
 unfoldable pub solve_answer : List ℕ → ℕ → ℕ → Answer Solved
-solve_answer s masksRoom ranksRoom =
+solve_answer s masks_room ranks_room =
     let G = game_of s in
     let d = delay_of s in
     on_accepted (read_answer s)
     (λ l.
-    check (both (leb (arena G d).nodes masksRoom) (leb (arena G d).nodes ranksRoom)) 8
+    check (both (leb (arena G d).nodes masks_room) (leb (arena G d).nodes ranks_room)) 8
     (accepted (record { verdict = answer G d; layout = l })))
 
 -- "the entries for the asked lag (winning) or for m (losing)"

@@ -41,7 +41,7 @@ unfoldable pub ranks_after : Arena → ℕ → List ℕ
 ranks_after E zero = tabulate (λ k. 0) 0 E.nodes
 ranks_after E (suc n) = tabulate (rank_in E n (ranks_after E n)) 0 E.nodes
 
--- after so many rounds nothing falls any more (proofs/Rounds.antt, final-after)
+-- after so many rounds nothing falls any more (proofs/Rounds.antt, final_after)
 unfoldable pub final_ranks : Arena → List ℕ
 final_ranks E = ranks_after E (suc E.nodes)
 

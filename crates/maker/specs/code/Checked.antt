@@ -33,18 +33,18 @@ header_bytes l m = l.start ∷ l.actions ∷ m ∷ (l.positions.size - 1) ∷ []
 
 -- the number of the refusal where a buffer is too short for so many nodes and first words, 8 before 9; 0 where none is
 unfoldable pub short_of : ℕ → ℕ → ℕ → ℕ → ℕ → ℕ
-short_of nodes words masksRoom ranksRoom output_room =
-    cond (both (leb nodes masksRoom) (leb nodes ranksRoom)) (cond (leb (19 + words + 2 * nodes) output_room) 0 9) 8
+short_of nodes words masks_length ranks_length output_length =
+    cond (both (leb nodes masks_length) (leb nodes ranks_length)) (cond (leb (19 + words + 2 * nodes) output_length) 0 9) 8
 
 -- a game sheet that was read, and buffers with room for making from it
-pub record Ready (s : List ℕ) (l : Layout) (masksRoom ranksRoom output_room : ℕ) : Type 0 where
+pub record Ready (s : List ℕ) (l : Layout) (masks_length ranks_length output_length : ℕ) : Type 0 where
   pub reads : read_answer s ≡ accepted l
-  pub masks_room : (arena (game_of s) (delay_of s)).nodes ≤ masksRoom
-  pub ranks_room : (arena (game_of s) (delay_of s)).nodes ≤ ranksRoom
-  pub output_room_lem : output_size (game_of s) (delay_of s) ≤ output_room
+  pub masks_room : (arena (game_of s) (delay_of s)).nodes ≤ masks_length
+  pub ranks_room : (arena (game_of s) (delay_of s)).nodes ≤ ranks_length
+  pub output_room : output_size (game_of s) (delay_of s) ≤ output_length
 
 -- a game sheet that was read, and buffers that begin with its masks and ranks at the asked delay
-pub record HasTable (s : List ℕ) (l : Layout) (masksNow ranksNow : List ℕ) : Type 0 where
+pub record HasTable (s : List ℕ) (l : Layout) (masks_now ranks_now : List ℕ) : Type 0 where
   pub reads : read_answer s ≡ accepted l
-  pub masks : take (arena (game_of s) (delay_of s)).nodes masksNow ≡ masks (arena (game_of s) (delay_of s))
-  pub ranks : take (arena (game_of s) (delay_of s)).nodes ranksNow ≡ final_ranks (arena (game_of s) (delay_of s))
+  pub masks : take (arena (game_of s) (delay_of s)).nodes masks_now ≡ masks (arena (game_of s) (delay_of s))
+  pub ranks : take (arena (game_of s) (delay_of s)).nodes ranks_now ≡ final_ranks (arena (game_of s) (delay_of s))

@@ -58,6 +58,6 @@ pub record Fillable (p : List ℕ) (g : List (List ℕ)) (u : List ℕ) (start a
   pub ranks_room : nodes_of (length p) actions delay ≤ length ranks
 
 -- the answer, and both buffers filled for the delay where the search stopped
-pub record Filled (G : Game) (d : ℕ) (masksBefore ranksBefore masks_after ranks_after : List ℕ) (r : Stop) : Type 0 where
-  pub stopped : Stopped G d ranksBefore ranks_after r
-  pub masks : masks_after ≡ over (masks (arena G r.delay)) masksBefore
+pub record Filled (G : Game) (d : ℕ) (masks_before ranks_before masks_after ranks_after : List ℕ) (r : Stop) : Type 0 where
+  pub stopped : Stopped G d ranks_before ranks_after r
+  pub masks : masks_after ≡ over (masks (arena G r.delay)) masks_before
