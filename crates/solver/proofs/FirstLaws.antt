@@ -146,6 +146,28 @@ row_start {k = k} placed = let e : k + 0 ≡ k = omega arith in rw e placed
 pub row_done : {p : List ℕ} {l : Level} {full : ℕ} {w : Work} (k i m : ℕ) → i ≤ m → m ≤ i → Placed p l full (k + i) w → Placed p l full (k + m) w
 row_done k i m a b placed = let e : i ≡ m = omega arith in rw e at placed
 
+-- what there is room for at a node of row q
+pub row_room : (p : List ℕ) (l : Level) (full q i : ℕ) → Sized (length p) l → q < length p → i < l.words → (w : Work)
+    → Placed p l full (q * l.words + i) w
+    → record {
+      inside : q * l.words + i < l.nodes;
+      few : l.nodes ≤ most_nodes;
+      behind : w.tail ≤ q * l.words + i;
+      ranks : length w.ranks ≡ l.nodes;
+      masks : length w.masks ≡ l.nodes;
+      queue : length w.queue ≡ l.nodes;
+    }
+row_room p l full q i sized h a w placed =
+    let k = row_node (length p) l sized q i h a in
+    record {
+      inside = k;
+      few = sized.few_nodes;
+      behind = tail_le p l full (q * l.words + i) w placed k;
+      ranks = placed.ranks_size;
+      masks = placed.masks_size;
+      queue = placed.queue_size;
+    }
+
 module _ (p : List ℕ) (l : Level) (full q i : ℕ) (w : Work) (sized : Sized (length p) l) (h : q < length p) (a : i < l.words)
     (placed : Placed p l full (q * l.words + i) w) {r : Bool} {mask : ℕ} (e : r ≡ row_falls l.odd p q) (m : mask ≡ row_mask l.odd p full q) where
   in_row : (q * l.words + i) / l.words ≡ q

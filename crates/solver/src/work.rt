@@ -47,13 +47,13 @@ fn all_rounds(
     let mut tail = block(p, grid, u, firsts, level, younger, ranks, masks, queue, hi);
     let mut lo: usize = 0;
     let mut n: u16 = 1;
-    let last = loop {
+    let last = 'rounds: loop {
         let end = sweep(
             u, reaching, lines, leading, cells, level, younger, seen, ranks, masks, queue, n, lo,
             hi, tail,
         );
         if end == hi {
-            break n;
+            break 'rounds n;
         }
         lo = hi;
         hi = end;

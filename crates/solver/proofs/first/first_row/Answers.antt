@@ -1,6 +1,6 @@
 -- `first_row` meets its contract. The nodes passed are placed. Assumes nothing.
 use native.Mathlib.Omega.{arith}
-use Rattle.solver.proofs.FirstLaws.{row_node, row_le, tail_le, row_start, row_done, row_falls_lem, row_stands}
+use Rattle.solver.proofs.FirstLaws.{row_le, row_room, row_start, row_done, row_falls_lem, row_stands}
 use Rattle.solver.proofs.first.first_row.Goals as goal
 use Rattle.solver.proofs.first.first_row.Goals.{then-falls, else-falls}
 
@@ -11,133 +11,43 @@ pub loop-i-init : goal.loop-i-init
 loop-i-init c = (omega arith, row_start c.requires.2)
 
 pub overflow_add-k : goal.overflow_add-k
-overflow_add-k c = let p = c.requires in
-    let l = c.loop-i in
-    let t = c.loop-i-test.true in
-    let k = row_node _ _ p.0 _ l.i p.1 t in
-    let s = p.0.few_nodes in
-    let v = l.invariant.1 in
-    let z = tail_le _ _ _ _ _ v k in
-    let a = v.ranks_size in
-    let b = v.masks_size in
-    let d = v.queue_size in
+overflow_add-k c = let r = row_room _ _ _ _ _ c.requires.0 c.requires.1 c.loop-i-test.true _ c.loop-i.invariant.1 in
     record { fits = omega arith }
 
 pub bounds-masks-k : goal.bounds-masks-k
-bounds-masks-k c = let p = c.requires in
-    let l = c.loop-i in
-    let t = c.loop-i-test.true in
-    let k = row_node _ _ p.0 _ l.i p.1 t in
-    let s = p.0.few_nodes in
-    let v = l.invariant.1 in
-    let z = tail_le _ _ _ _ _ v k in
-    let a = v.ranks_size in
-    let b = v.masks_size in
-    let d = v.queue_size in
+bounds-masks-k c = let r = row_room _ _ _ _ _ c.requires.0 c.requires.1 c.loop-i-test.true _ c.loop-i.invariant.1 in
     omega arith
 
 pub offset_bounds-ranks-k : goal.offset_bounds-ranks-k
-offset_bounds-ranks-k c = let p = c.requires in
-    let l = c.loop-i in
-    let t = c.loop-i-test.true in
-    let k = row_node _ _ p.0 _ l.i p.1 t in
-    let s = p.0.few_nodes in
-    let v = l.invariant.1 in
-    let z = tail_le _ _ _ _ _ v k in
-    let a = v.ranks_size in
-    let b = v.masks_size in
-    let d = v.queue_size in
+offset_bounds-ranks-k c = let r = row_room _ _ _ _ _ c.requires.0 c.requires.1 c.loop-i-test.true _ c.loop-i.invariant.1 in
     record { fits = omega arith }
 
 pub bounds-ranks-k : goal.bounds-ranks-k
-bounds-ranks-k c = let p = c.requires in
-    let l = c.loop-i in
-    let t = c.loop-i-test.true in
-    let k = row_node _ _ p.0 _ l.i p.1 t in
-    let s = p.0.few_nodes in
-    let v = l.invariant.1 in
-    let z = tail_le _ _ _ _ _ v k in
-    let a = v.ranks_size in
-    let b = v.masks_size in
-    let d = v.queue_size in
+bounds-ranks-k c = let r = row_room _ _ _ _ _ c.requires.0 c.requires.1 c.loop-i-test.true _ c.loop-i.invariant.1 in
     omega arith
 
 pub overflow_cast-queue : goal.overflow_cast-queue
-overflow_cast-queue c = let p = c.requires in
-    let l = c.loop-i in
-    let t = c.loop-i-test.true in
-    let k = row_node _ _ p.0 _ l.i p.1 t in
-    let s = p.0.few_nodes in
-    let v = l.invariant.1 in
-    let z = tail_le _ _ _ _ _ v k in
-    let a = v.ranks_size in
-    let b = v.masks_size in
-    let d = v.queue_size in
+overflow_cast-queue c = let r = row_room _ _ _ _ _ c.requires.0 c.requires.1 c.loop-i-test.true _ c.loop-i.invariant.1 in
     record { fits = omega arith }
 
 pub offset_bounds-queue-last : goal.offset_bounds-queue-last
-offset_bounds-queue-last c = let p = c.requires in
-    let l = c.loop-i in
-    let t = c.loop-i-test.true in
-    let k = row_node _ _ p.0 _ l.i p.1 t in
-    let s = p.0.few_nodes in
-    let v = l.invariant.1 in
-    let z = tail_le _ _ _ _ _ v k in
-    let a = v.ranks_size in
-    let b = v.masks_size in
-    let d = v.queue_size in
+offset_bounds-queue-last c = let r = row_room _ _ _ _ _ c.requires.0 c.requires.1 c.loop-i-test.true _ c.loop-i.invariant.1 in
     record { fits = omega arith }
 
 pub bounds-queue-last : goal.bounds-queue-last
-bounds-queue-last c = let p = c.requires in
-    let l = c.loop-i in
-    let t = c.loop-i-test.true in
-    let k = row_node _ _ p.0 _ l.i p.1 t in
-    let s = p.0.few_nodes in
-    let v = l.invariant.1 in
-    let z = tail_le _ _ _ _ _ v k in
-    let a = v.ranks_size in
-    let b = v.masks_size in
-    let d = v.queue_size in
+bounds-queue-last c = let r = row_room _ _ _ _ _ c.requires.0 c.requires.1 c.loop-i-test.true _ c.loop-i.invariant.1 in
     omega arith
 
 pub overflow_add-last : goal.overflow_add-last
-overflow_add-last c = let p = c.requires in
-    let l = c.loop-i in
-    let t = c.loop-i-test.true in
-    let k = row_node _ _ p.0 _ l.i p.1 t in
-    let s = p.0.few_nodes in
-    let v = l.invariant.1 in
-    let z = tail_le _ _ _ _ _ v k in
-    let a = v.ranks_size in
-    let b = v.masks_size in
-    let d = v.queue_size in
+overflow_add-last c = let r = row_room _ _ _ _ _ c.requires.0 c.requires.1 c.loop-i-test.true _ c.loop-i.invariant.1 in
     record { fits = omega arith }
 
 pub offset_bounds-ranks-k-else-falls : goal.offset_bounds-ranks-k-else-falls
-offset_bounds-ranks-k-else-falls c = let p = c.requires in
-    let l = c.loop-i in
-    let t = c.loop-i-test.true in
-    let k = row_node _ _ p.0 _ l.i p.1 t in
-    let s = p.0.few_nodes in
-    let v = l.invariant.1 in
-    let z = tail_le _ _ _ _ _ v k in
-    let a = v.ranks_size in
-    let b = v.masks_size in
-    let d = v.queue_size in
+offset_bounds-ranks-k-else-falls c = let r = row_room _ _ _ _ _ c.requires.0 c.requires.1 c.loop-i-test.true _ c.loop-i.invariant.1 in
     record { fits = omega arith }
 
 pub bounds-ranks-k-else-falls : goal.bounds-ranks-k-else-falls
-bounds-ranks-k-else-falls c = let p = c.requires in
-    let l = c.loop-i in
-    let t = c.loop-i-test.true in
-    let k = row_node _ _ p.0 _ l.i p.1 t in
-    let s = p.0.few_nodes in
-    let v = l.invariant.1 in
-    let z = tail_le _ _ _ _ _ v k in
-    let a = v.ranks_size in
-    let b = v.masks_size in
-    let d = v.queue_size in
+bounds-ranks-k-else-falls c = let r = row_room _ _ _ _ _ c.requires.0 c.requires.1 c.loop-i-test.true _ c.loop-i.invariant.1 in
     omega arith
 
 pub loop-i-preserved : goal.loop-i-preserved

@@ -14,8 +14,8 @@ pub block-tail-requires : goal.block-tail-requires
 block-tail-requires c = let p = c.requires in
     (p.0.sized, p.0.fits, start_lent _ _ _ _ _ _ _ _ _ _ p.0 _ c.full_mask.ensures c.first-hi.ensures)
 
-pub loop-hi-init : goal.loop-hi-init
-loop-hi-init c = let p = c.requires in (
+pub rounds-init : goal.rounds-init
+rounds-init c = let p = c.requires in (
   search rules,
   search rules,
   search rules,
@@ -26,7 +26,7 @@ loop-hi-init c = let p = c.requires in (
 
 pub sweep-end-requires : goal.sweep-end-requires
 sweep-end-requires c = let p = c.requires.0 in
-    let l = c.loop-hi in
+    let l = c.rounds in
     let r = l.invariant.4 in (
       round_lent _ _ _ _ _ _ _ _ _ _ p _ _ _ _ r,
       p.fits,
@@ -39,45 +39,45 @@ sweep-end-requires c = let p = c.requires.0 in
 
 pub overflow_add-n : goal.overflow_add-n
 overflow_add-n c = let p = c.requires in
-    let l = c.loop-hi in
+    let l = c.rounds in
     let f = round_few _ _ _ _ _ _ _ _ _ _ p.0 _ l.lo l.hi _ l.invariant.4 in
     record { fits = omega arith }
 
-pub loop-hi-smaller : goal.loop-hi-smaller
-loop-hi-smaller c = let p = c.requires in
-    let l = c.loop-hi in
-    let m = round_more _ _ _ _ _ _ _ _ _ _ p.0 _ l.lo l.hi _ l.invariant.4 c.sweep-end.ensures.0 c.if-end-hi.false in
+pub rounds-smaller : goal.rounds-smaller
+rounds-smaller c = let p = c.requires in
+    let l = c.rounds in
+    let m = round_more _ _ _ _ _ _ _ _ _ _ p.0 _ l.lo l.hi _ l.invariant.4 c.sweep-end.ensures.0 (search rules) in
     let i = next_inside _ _ _ _ _ _ _ _ _ _ p.0 _ l.lo l.hi _ l.invariant.4 c.sweep-end.ensures.0 in
     omega arith
 
-pub loop-hi-preserved : goal.loop-hi-preserved
-loop-hi-preserved c = (
+pub rounds-preserved : goal.rounds-preserved
+rounds-preserved c = (
   search rules,
   search rules,
   search rules,
   search rules,
   (let p = c.requires in
-      let l = c.loop-hi in
-      round_next _ _ _ _ _ _ _ _ _ _ p.0 _ l.lo l.hi _ l.invariant.4 c.sweep-end.ensures.0 c.if-end-hi.false),
+      let l = c.rounds in
+      round_next _ _ _ _ _ _ _ _ _ _ p.0 _ l.lo l.hi _ l.invariant.4 c.sweep-end.ensures.0 (search rules)),
   c.sweep-end.ensures.1,
 )
 
 pub shape_of-ranks : goal.shape_of-ranks
 shape_of-ranks c = let p = c.requires in
-    let l = c.loop-hi in
+    let l = c.rounds in
     next_ranks_lem _ _ _ _ _ _ _ _ _ _ p.0 _ l.lo l.hi _ l.invariant.4 c.sweep-end.ensures.0 ∙ sym p.1
 
 pub shape_of-masks : goal.shape_of-masks
 shape_of-masks c = let p = c.requires in
-    let l = c.loop-hi in
+    let l = c.rounds in
     next_masks _ _ _ _ _ _ _ _ _ _ p.0 _ l.lo l.hi _ l.invariant.4 c.sweep-end.ensures.0 ∙ sym p.2
 
 pub shape_of-queue : goal.shape_of-queue
 shape_of-queue c = let p = c.requires in
-    let l = c.loop-hi in
+    let l = c.rounds in
     next_queue _ _ _ _ _ _ _ _ _ _ p.0 _ l.lo l.hi _ l.invariant.4 c.sweep-end.ensures.0 ∙ sym p.3
 
 pub returns : goal.returns
 returns c = let p = c.requires in
-    let l = c.loop-hi in
-    round_over _ _ _ _ _ _ _ _ _ _ p.0 _ l.lo l.hi _ l.invariant.4 c.sweep-end.ensures.0 c.if-end-hi.true
+    let l = c.rounds in
+    round_over _ _ _ _ _ _ _ _ _ _ p.0 _ l.lo l.hi _ l.invariant.4 c.sweep-end.ensures.0 (search rules)

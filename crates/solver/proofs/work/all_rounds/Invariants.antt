@@ -8,13 +8,13 @@ use Rattle.solver.specs.code.Seen.{Seen}
 use Rattle.solver.proofs.WorkLaws.{Rounding}
 use Rattle.solver.proofs.work.all_rounds.Given as goal
 
-abbrev pub invariant-loop-hi : goal.invariant-loop-hi
-invariant-loop-hi l = (length l.seen ≡ length l.initial.seen)
+abbrev pub invariant-rounds : goal.invariant-rounds
+invariant-rounds l = (length l.seen ≡ length l.initial.seen)
     × (length l.ranks ≡ length l.initial.ranks)
     × (length l.masks ≡ length l.initial.masks)
     × (length l.queue ≡ length l.initial.queue)
     × Rounding (arena_of l.p l.grid l.u l.firsts l.level) l.n l.lo l.hi (work l.ranks l.masks l.queue l.tail)
     × Seen l.leading l.cells l.level.words l.younger l.level.actions l.seen l.masks
 
-abbrev pub decreases-loop-hi : goal.decreases-loop-hi
-decreases-loop-hi l = l.level.nodes - l.hi
+abbrev pub decreases-rounds : goal.decreases-rounds
+decreases-rounds l = l.level.nodes - l.hi
