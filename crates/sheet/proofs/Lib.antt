@@ -1,6 +1,5 @@
 -- Laws of the definitions of specs/, on which the proofs of the functions rest.
 pub mod FormLaws
-pub mod KindLaws
 pub mod SizeLaws
 pub mod GridLaws
 pub mod MoveLaws

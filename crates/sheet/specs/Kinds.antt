@@ -1,33 +1,35 @@
 -- What a P byte says of its position: "0 own and safe, 1 own and unsafe, 2 yard and safe, 3 yard and unsafe". Assumes nothing.
-use Rattle.std.specs.Prelude.{ℕ, Bool, true, false, not, cond, List, eqb, ltb, length, get_or}
+use Rattle.std.specs.Prelude.{ℕ, Bool, true, false, not, cond, List, Option, None, Some, eqb, ltb, length, get_or}
 use Rattle.sheet.specs.declared.kinds.Kind.{Kind}
-use Rattle.sheet.specs.declared.kinds.Kind.TheVariants.{Position, Invalid}
 
-unfoldable pub kind_of : ℕ → Kind
+abbrev pub position : Bool → Bool → Option Kind
+position controller safe = Some (record { controller = controller; safe = safe })
+
+unfoldable pub kind_of : ℕ → Option Kind
 kind_of b =
-    cond (eqb b 0) (Position true true)
-    (cond (eqb b 1) (Position true false)
-    (cond (eqb b 2) (Position false true) (cond (eqb b 3) (Position false false) Invalid)))
+    cond (eqb b 0) (position true true)
+    (cond (eqb b 1) (position true false)
+    (cond (eqb b 2) (position false true) (cond (eqb b 3) (position false false) None)))
 
 -- the kind of position q; a position that does not exist has none
-unfoldable pub kind_at : List ℕ → ℕ → Kind
-kind_at p q = cond (ltb q (length p)) (kind_of (get_or p q 0)) Invalid
+unfoldable pub kind_at : List ℕ → ℕ → Option Kind
+kind_at p q = cond (ltb q (length p)) (kind_of (get_or p q 0)) None
 
-unfoldable pub is_known : Kind → Bool
-is_known (Position controller safe) = true
-is_known Invalid = false
+unfoldable pub is_known : Option Kind → Bool
+is_known (Some kind) = true
+is_known None = false
 
-unfoldable pub is_controller : Kind → Bool
-is_controller (Position controller safe) = controller
-is_controller Invalid = false
+unfoldable pub is_controller : Option Kind → Bool
+is_controller (Some kind) = kind.controller
+is_controller None = false
 
-unfoldable pub is_environment : Kind → Bool
-is_environment (Position controller safe) = not controller
-is_environment Invalid = false
+unfoldable pub is_environment : Option Kind → Bool
+is_environment (Some kind) = not kind.controller
+is_environment None = false
 
-unfoldable pub is_safe : Kind → Bool
-is_safe (Position controller safe) = safe
-is_safe Invalid = false
+unfoldable pub is_safe : Option Kind → Bool
+is_safe (Some kind) = kind.safe
+is_safe None = false
 
 unfoldable pub known_at : List ℕ → ℕ → Bool
 known_at p q = is_known (kind_at p q)

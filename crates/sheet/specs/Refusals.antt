@@ -1,6 +1,7 @@
 -- The number of each refusal: document 01's, under "What each operation says no to", and from 21 on document 02's ("the new numbers
--- here and below counting as document 01's"). Assumes nothing.
-use Rattle.std.specs.Prelude.{ℕ}
+-- here and below counting as document 01's"); and the answer that a result of the code is. Assumes nothing.
+use Rattle.std.specs.Prelude.{ℕ, Result, Ok, Err}
+use Rattle.theory.specs.Answer.{Answer, refused, accepted}
 use Rattle.sheet.specs.declared.refusal.Refusal.{Refusal}
 use Rattle.sheet.specs.declared.refusal.Refusal.TheVariants.{Contents, Positions, Header, Targets, Moves, Stuck, Size, Buffers}
 use Rattle.sheet.specs.declared.refusal.Refusal.TheVariants.{Output, TableContents, TableShape, NoInitialWord, Unobserved, NoAction}
@@ -32,3 +33,12 @@ number_of Mismatch = 21
 number_of TooMany = 22
 number_of NoSuchPosition = 23
 number_of Gates = 24
+
+-- document 01's number and value for every case of a result, f giving the value
+abbrev pub answer_by : {A B : Type 0} → (A → B) → Result A Refusal → Answer B
+answer_by f (Ok a) = accepted (f a)
+answer_by f (Err r) = refused (number_of r)
+
+abbrev pub answer_of : {A : Type 0} → Result A Refusal → Answer A
+answer_of (Ok a) = accepted a
+answer_of (Err r) = refused (number_of r)

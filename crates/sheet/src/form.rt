@@ -9,7 +9,7 @@ ghost use Rattle.theory.specs.Bytes.{number_at};
 const ENTRY: usize = 5;
 
 // Where a body lies in its sheet.
-#[derive(Clone, Copy)]
+#[derive(Clone, Copy, Debug, PartialEq, Eq)]
 pub struct Place {
     pub at: usize,
     pub size: usize,
@@ -40,17 +40,18 @@ pub fn low_byte(n: usize) -> u8
 pub fn byte(s: &[u8], i: usize) -> u8
     ensures { result ≡ get_or s.now i 0 }
 {
-    if i < s.len() { s[i] } else { 0 }
+    s.get(i).copied().unwrap_or(0)
 }
 
 // The two-byte number at a place, low byte first.
+#[tactic(auto, unfolding(theory::specs::Bytes::number_at))]
 pub fn two_bytes(s: &[u8], at: usize) -> usize
     ensures { (result ≡ number_at width s.now at) × (result < 65536) }
 {
     if s.len() <= at {
         return 0;
     }
-    wide(byte(s, at)) + 256 * wide(byte(s, at + 1))
+    usize::from(u16::from_le_bytes([byte(s, at), byte(s, at + 1)]))
 }
 
 // Are the contents those of a sheet with these letters? A place is below 65,536 once it equals an offset, so no sum wraps.
@@ -109,6 +110,7 @@ pub fn part(s: &[u8], place: Place) -> &[u8]
 }
 
 // The body of entry k.
+#[tactic(auto, unfolding(crate::specs::Form::body_of))]
 pub fn body(s: &[u8], k: usize) -> &[u8]
     ensures { result.now ≡ body_of width s.now k }
 {

@@ -2,7 +2,6 @@
 ghost use Rattle.std.specs.Prelude.{◌≡◌};
 ghost use Rattle.sheet.specs.code.Arrays.{grid_of, unmark, target_at};
 
-use crate::form::wide;
 use crate::limits::{ABSENT, ROW, ROWS};
 
 // A line with an action that no row has is left out, so the function is total.
@@ -13,8 +12,8 @@ pub fn grid_of(c: &[u8]) -> [[u16; ROW]; ROWS]
     let row = [ABSENT; ROW];
     let mut grid = [row; ROWS];
     for k in 0..n {
-        let from = wide(c[3 * k]);
-        let action = wide(c[3 * k + 1]);
+        let from = usize::from(c[3 * k]);
+        let action = usize::from(c[3 * k + 1]);
         let to = c[3 * k + 2] as u16;
         if action < ROW {
             grid[from][action] = to;

@@ -3,100 +3,78 @@ ghost use Rattle.std.specs.Prelude.{◌≡◌};
 ghost use Rattle.sheet.specs.Kinds.{kind_of, kind_at, known_at, controller_at, environment_at, safe_at};
 ghost use Rattle.theory.specs.Delay.{on_right};
 
-#[derive(Clone, Copy)]
-pub enum Kind {
-    Position { controller: bool, safe: bool },
-    Invalid,
+// Whose position it is, and whether it is safe.
+#[derive(Clone, Copy, Debug, PartialEq, Eq)]
+pub struct Kind {
+    pub controller: bool,
+    pub safe: bool,
 }
 
 // Side and safety by a P byte; there is none above 3.
-pub fn kind_of(b: u8) -> Kind
+#[tactic(auto, unfolding(crate::specs::Kinds::kind_of))]
+pub fn kind_of(b: u8) -> Option<Kind>
     ensures { result ≡ kind_of b }
 {
     match b {
-        0 => Kind::Position {
+        0 => Some(Kind {
             controller: true,
             safe: true,
-        },
-        1 => Kind::Position {
+        }),
+        1 => Some(Kind {
             controller: true,
             safe: false,
-        },
-        2 => Kind::Position {
+        }),
+        2 => Some(Kind {
             controller: false,
             safe: true,
-        },
-        3 => Kind::Position {
+        }),
+        3 => Some(Kind {
             controller: false,
             safe: false,
-        },
-        4..=255 => Kind::Invalid,
+        }),
+        4..=255 => None,
     }
 }
 
-pub fn kind_at(p: &[u8], q: usize) -> Kind
+#[tactic(auto, unfolding(crate::specs::Kinds::kind_at))]
+pub fn kind_at(p: &[u8], q: usize) -> Option<Kind>
     ensures { result ≡ kind_at p.now q }
 {
-    if p.len() <= q {
-        return Kind::Invalid;
-    }
-    kind_of(p[q])
+    p.get(q).and_then(|&b| kind_of(b))
 }
 
+#[tactic(auto, unfolding(crate::specs::Kinds::controller_at, crate::specs::Kinds::is_controller))]
 pub fn controller_at(p: &[u8], q: usize) -> bool
     ensures { result ≡ controller_at p.now q }
 {
-    match kind_at(p, q) {
-        Kind::Position {
-            controller,
-            safe: _,
-        } => controller,
-        Kind::Invalid => false,
-    }
+    kind_at(p, q).is_some_and(|kind| kind.controller)
 }
 
+#[tactic(auto, unfolding(crate::specs::Kinds::environment_at, crate::specs::Kinds::is_environment))]
 pub fn environment_at(p: &[u8], q: usize) -> bool
     ensures { result ≡ environment_at p.now q }
 {
-    match kind_at(p, q) {
-        Kind::Position {
-            controller,
-            safe: _,
-        } => !controller,
-        Kind::Invalid => false,
-    }
+    kind_at(p, q).is_some_and(|kind| !kind.controller)
 }
 
+#[tactic(auto, unfolding(crate::specs::Kinds::safe_at, crate::specs::Kinds::is_safe))]
 pub fn safe_at(p: &[u8], q: usize) -> bool
     ensures { result ≡ safe_at p.now q }
 {
-    match kind_at(p, q) {
-        Kind::Position {
-            controller: _,
-            safe,
-        } => safe,
-        Kind::Invalid => false,
-    }
+    kind_at(p, q).is_some_and(|kind| kind.safe)
 }
 
 // Is this position of the side whose nodes can fall: the controller's at even delays, the environment's at odd ones?
+#[tactic(auto, unfolding(theory::specs::Delay::on_right))]
 pub fn on_right(p: &[u8], odd: bool, q: usize) -> bool
     ensures { result ≡ on_right odd (controller_at p.now) q }
 {
-    if odd {
-        return !controller_at(p, q);
-    }
-    controller_at(p, q)
+    controller_at(p, q) != odd
 }
 
+#[tactic(auto, unfolding(crate::specs::Kinds::known_at, crate::specs::Kinds::is_known))]
 pub fn known_at(p: &[u8], q: usize) -> bool
     ensures { result ≡ known_at p.now q }
 {
-    match kind_at(p, q) {
-        Kind::Position {
-            controller: _,
-            safe: _,
-        } => true,
-        Kind::Invalid => false,
-    }
+    kind_at(p, q).is_some()
 }

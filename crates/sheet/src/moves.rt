@@ -3,18 +3,13 @@ ghost use Rattle.std.specs.Prelude.{◌≡◌, true, ◌≤◌};
 ghost use Rattle.theory.specs.Fold.{all_below};
 ghost use Rattle.sheet.specs.code.Arrays.{line_count, from_below, first_line, firsts_of};
 
-use crate::form::wide;
 use crate::limits::{INDEX, MOST_MOVES};
 
 // The lines that are looked at: as many as check 5 leaves, so that an entry of the index fits, for any body.
-fn line_count(u: &[u8]) -> usize
+pub fn line_count(u: &[u8]) -> usize
     ensures { result ≡ line_count u.now }
 {
-    let n = u.len() / 2;
-    if MOST_MOVES < n {
-        return MOST_MOVES;
-    }
-    n
+    (u.len() / 2).min(MOST_MOVES)
 }
 
 // The first line, from a given one on, that is not of a position below q.
@@ -25,7 +20,7 @@ fn skip_below(u: &[u8], from: usize, q: usize) -> usize
     let n = line_count(u);
     let mut line = from;
     while line < n {
-        if q <= wide(u[2 * line]) {
+        if q <= usize::from(u[2 * line]) {
             return line;
         }
         line += 1;

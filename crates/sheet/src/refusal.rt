@@ -2,7 +2,7 @@
 ghost use Rattle.std.specs.Prelude.{◌≡◌};
 ghost use Rattle.sheet.specs.Refusals.{number_of};
 
-#[derive(Clone, Copy)]
+#[derive(Clone, Copy, Debug, PartialEq, Eq)]
 pub enum Refusal {
     Contents,
     Positions,
@@ -30,12 +30,12 @@ pub enum Refusal {
     Gates,
 }
 
-impl Refusal {
-    // The number of a refusal.
-    pub fn number(self) -> u8
-        ensures { result ≡ number_of self }
-    {
-        match self {
+// The number of a refusal.
+impl From<Refusal> for u8 {
+    ghost from_gives = { λ refusal n. n ≡ number_of refusal };
+
+    fn from(refusal: Refusal) -> u8 {
+        match refusal {
             Refusal::Contents => 1,
             Refusal::Positions => 2,
             Refusal::Header => 3,
@@ -61,5 +61,14 @@ impl Refusal {
             Refusal::NoSuchPosition => 23,
             Refusal::Gates => 24,
         }
+    }
+}
+
+impl Refusal {
+    // The same, for callers that take the number by name.
+    pub fn number(self) -> u8
+        ensures { result ≡ number_of self }
+    {
+        u8::from(self)
     }
 }

@@ -3,7 +3,6 @@ ghost use Rattle.std.specs.Prelude.{◌≡◌, ◌*◌, ◌/◌, ◌≤◌};
 ghost use Rattle.theory.specs.Strategy.{initial_length};
 ghost use Rattle.sheet.specs.code.Steps.{power_to, most_power};
 
-use crate::form::wide;
 use crate::limits::MOST_POWER;
 
 // A power, or 65,536 where it is more: then no product wraps, for any base and exponent.
@@ -12,7 +11,7 @@ pub fn power(base: u8, exponent: usize) -> usize
 {
     let mut r: usize = 1;
     for _ in 0..exponent {
-        r = r * wide(base);
+        r = r * usize::from(base);
         if MOST_POWER < r {
             return MOST_POWER;
         }
@@ -24,11 +23,11 @@ pub fn power(base: u8, exponent: usize) -> usize
 pub fn nodes_at(positions: u16, actions: u8, delay: u8) -> usize
     ensures { (result ≡ positions * power_to actions (delay / 2)) × (result ≤ most_power * most_power) }
 {
-    positions as usize * power(actions, wide(delay) / 2)
+    positions as usize * power(actions, usize::from(delay) / 2)
 }
 
 pub fn words_at(actions: u8, delay: u8) -> usize
     ensures { (result ≡ power_to actions (initial_length delay)) × (result ≤ most_power) }
 {
-    power(actions, (wide(delay) + 1) / 2)
+    power(actions, (usize::from(delay) + 1) / 2)
 }

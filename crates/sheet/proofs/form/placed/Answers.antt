@@ -5,11 +5,5 @@ use Rattle.sheet.proofs.form.placed.Goals as goal
 pub returns-then-s-k : goal.returns-then-s-k
 returns-then-s-k c = search parts
 
-pub two_bytes-requires : goal.two_bytes-requires
-two_bytes-requires c = search parts
-
-pub two_bytes-requires-2 : goal.two_bytes-requires-2
-two_bytes-requires-2 c = search parts
-
 pub returns : goal.returns
 returns c = search parts

@@ -8,11 +8,8 @@ line_count-n-requires c = search skipping
 pub loop-line-init : goal.loop-line-init
 loop-line-init c = search skipping
 
-pub wide-requires : goal.wide-requires
-wide-requires c = search skipping
-
-pub returns-then-q-wide : goal.returns-then-q-wide
-returns-then-q-wide c = search skipping
+pub returns-then-q-from : goal.returns-then-q-from
+returns-then-q-from c = search skipping
 
 pub loop-line-preserved : goal.loop-line-preserved
 loop-line-preserved c = search skipping

@@ -5,13 +5,10 @@ use Rattle.sheet.proofs.SizeLaws.{powers, product_small}
 use Rattle.sheet.proofs.size.power.Goals as goal
 
 pub overflow_mul-r : goal.overflow_mul-r
-overflow_mul-r c = omega (arith, product_small c.loop.invariant.2 c.wide-r.ensures.0 c.wide-r.ensures.1)
+overflow_mul-r c = omega (arith, product_small c.loop.invariant.2 c.from-r.ensures (omega arith))
 
 pub loop-init : goal.loop-init
 loop-init c = search powers
-
-pub wide-r-requires : goal.wide-r-requires
-wide-r-requires c = search powers
 
 pub returns-then-r-gt-MOST_POWER : goal.returns-then-r-gt-MOST_POWER
 returns-then-r-gt-MOST_POWER c = search powers
