@@ -19,8 +19,8 @@ use Rattle.theory.proofs.Fold.{bool, below?, same?, both_none, both_false, both_
 use Rattle.theory.proofs.Fold.{length_tabulate, get_d_tabulate}
 use Rattle.theory.proofs.Notices.{listed_nil, listed_cons}
 use Rattle.theory.proofs.Filling.{filled, filled_none, filled_more, filled_over}
-use Rattle.sheet.specs.Kinds.{kind_of, kind_at, is_controller, is_safe, controller_at, safe_at}
-use Rattle.sheet.specs.declared.kinds.Kind.TheVariants.{Position, Invalid}
+use Rattle.std.specs.Prelude.{Option, None, Some}
+use Rattle.sheet.specs.Kinds.{position, kind_of, kind_at, is_controller, is_safe, controller_at, safe_at}
 use Rattle.sheet.specs.code.Arrays.{view_of}
 use Rattle.table.specs.TableSheet.{below_at, bytes_below}
 use Rattle.notice.specs.code.Closed.{closed_byte, closed_at, closed_body}
@@ -141,12 +141,12 @@ module _ (b : ℕ) where
       (same? b 2))
       (same? b 0)
     where
-      others : (x y : Bool) → is_safe (cond x (Position true false) (cond y (Position false false) Invalid)) ≡ false
+      others : (x y : Bool) → is_safe (cond x (position true false) (cond y (position false false) None)) ≡ false
       others true y = refl
       others false true = refl
       others false false = refl
 
-invalid_unsafe : is_safe Invalid ≡ false
+invalid_unsafe : is_safe None ≡ false
 unfolding is_safe
 invalid_unsafe = refl
 
@@ -171,7 +171,7 @@ module _ (p ps : List ℕ) where
   unfolding kind_at
   kind_out q h = rw (body_length, le-ltb q (length p) h)
 
-  kind_none : (q : ℕ) → length p ≤ q → kind_at p q ≡ Invalid
+  kind_none : (q : ℕ) → length p ≤ q → kind_at p q ≡ None
   unfolding kind_at
   kind_none q h = rw (le-ltb q (length p) h)
 

@@ -15,6 +15,7 @@ use Rattle.theory.specs.Holding.{held}
 use Rattle.theory.proofs.Holding.{which, completed_legal}
 use Rattle.theory.proofs.Turns.{absent_not_to}
 use Rattle.theory.proofs.Fold.{bool, not_both, both_true, both_left, both_right, all_at, any_some, below_cases, below?, either_second}
+use Rattle.std.specs.Prelude.{Option, None, Some}
 use Rattle.sheet.specs.Kinds.{kind_at, is_controller, is_environment, controller_at, environment_at}
 use Rattle.reader.specs.Checks.{key_at, target_ok, targets_ok, move_ok, moves_ok, rises_at, begins_at, has_line, leaves_at, all_leave}
 use Rattle.sheet.specs.Bodies.{positions_body, targets_body, moves_body, is_holding, start_of, action_count}
@@ -27,14 +28,13 @@ use Rattle.sheet.specs.code.Arrays.{mark_of, unmark, grid_of, target_at, absent_
 use Rattle.sheet.proofs.GridLaws.{target_next, cell_at, row_at}
 use Rattle.reader.proofs.Accepted.{read_is, ranges}
 use Rattle.sheet.specs.declared.kinds.Kind.{Kind}
-use Rattle.sheet.specs.declared.kinds.Kind.TheVariants.{Position, Invalid}
 use Rattle.reader.specs.declared.reading.Layout.{Layout}
 use Rattle.sheet.specs.Limits.{most_positions, most_actions}
 
 -- kinds of positions
 
 module _ (p : List ℕ) (q : ℕ) where
-  none_outside : length p ≤ q → kind_at p q ≡ Invalid
+  none_outside : length p ≤ q → kind_at p q ≡ None
   unfolding kind_at
   none_outside h = rw (le-ltb _ _ h)
 
@@ -48,11 +48,11 @@ module _ (p : List ℕ) (q : ℕ) where
   environment_inside e =
       ⊎_elim (λ (l : q < length p). l) (λ (g : length p ≤ q). absurd (not_both (rw (none_outside g) at e) refl)) (below? q (length p))
 
-one_side : (k : Kind) → is_environment k ≡ true → is_controller k ≡ false
+one_side : (k : Option Kind) → is_environment k ≡ true → is_controller k ≡ false
 unfolding is_controller is_environment
-one_side (Position true safe) e = absurd (not_both e refl)
-one_side (Position false safe) e = refl
-one_side Invalid e = refl
+one_side (Some kind) e =
+    ⊎_elim (λ (t : kind.controller ≡ true). absurd (not_both e (rw t))) (λ (n : kind.controller ≡ false). n) (bool kind.controller)
+one_side None e = refl
 
 pub environment_not : (p : List ℕ) (q : ℕ) → environment_at p q ≡ true → controller_at p q ≡ false
 unfolding controller_at environment_at
