@@ -18,13 +18,14 @@ use Rattle.sheet.specs.Kinds.{controller_at}
 use Rattle.reader.specs.Checks.{positions_ok, header_ok, targets_ok, moves_ok, size_ok}
 use Rattle.sheet.specs.Size.{nodes_of}
 use Rattle.sheet.specs.Bodies.{game_letters, gated_letters, is_gated, letters_of, header_body, positions_body, targets_body, moves_body, is_holding, start_of, action_count, delay_of}
-use Rattle.reader.specs.Reading.{layout_of, checked_answer, read_answer, reading_means, refusal_number}
+use Rattle.reader.specs.Reading.{layout_of, checked_answer, read_answer}
 use Rattle.sheet.specs.SheetGame.{game_of}
 use Rattle.reader.specs.code.Steps.{Checked}
 use Rattle.sheet.specs.declared.refusal.Refusal.{Refusal}
 use Rattle.reader.specs.declared.reading.Layout.{Layout}
-use Rattle.reader.specs.declared.reading.Reading.{Reading}
-use Rattle.reader.specs.declared.reading.Reading.TheVariants.{Accepted, Refused}
+use Rattle.std.specs.Prelude.{Result, Ok, Err}
+use Rattle.sheet.specs.Refusals.{number_of, answer_of}
+use Rattle.sheet.proofs.RefusalLaws.{answer_accepted, answer_refused}
 use Rattle.sheet.specs.Limits.{most_positions, most_actions, most_delay, most_moves, most_nodes}
 
 -- the bodies of any sheet whose contents are right lie inside it whole
@@ -187,11 +188,11 @@ pub arena_nodes : (s : List ℕ) (d : ℕ) → (arena (game_of s) d).nodes ≡ n
 unfolding arena words game_of nodes_of
 arena_nodes s d = refl
 
--- what a caller learns from the arm of a `match` or `let else` that it is in
+-- what a caller learns from the arm that it is in
 
-module _ (s : List ℕ) (r : Reading) (e : reading_means r ≡ read_answer s) where
-  pub read_accepted : (l : Layout) → r ≡ Accepted l → read_answer s ≡ accepted l
-  read_accepted l f = sym e ∙ ap reading_means f
+module _ (s : List ℕ) (r : Result Layout Refusal) (e : answer_of r ≡ read_answer s) where
+  pub read_accepted : (l : Layout) → r ≡ Ok l → read_answer s ≡ accepted l
+  read_accepted = answer_accepted r (read_answer s) e
 
-  pub read_refused : (x : Refusal) (n : ℕ) → r ≡ Refused x → n ≡ refusal_number r → read_answer s ≡ refused n
-  read_refused x n f g = sym e ∙ ap reading_means f ∙ ap refused (sym (g ∙ ap refusal_number f))
+  pub read_refused : (x : Refusal) → r ≡ Err x → read_answer s ≡ refused (number_of x)
+  read_refused = answer_refused r (read_answer s) e

@@ -16,20 +16,14 @@ use Rattle.reader.specs.Checks.{positions_ok, header_ok, targets_ok, moves_ok, g
 use Rattle.sheet.specs.SheetGame.{game_of}
 use Rattle.reader.specs.code.Steps.{lines_answer, Headed, Checked}
 use Rattle.reader.proofs.Accepted.{checked_is, ranges, carries_checked}
-use Rattle.sheet.specs.Refusals.{number_of}
+use Rattle.std.specs.Prelude.{Result, Ok, Err}
+use Rattle.sheet.specs.Refusals.{answer_of}
 use Rattle.sheet.specs.Bodies.{letters_of, is_holding, start_of, action_count, delay_of}
-use Rattle.reader.specs.Reading.{layout_of, checked_answer, read_answer, reading_means, refusal_number}
+use Rattle.reader.specs.Reading.{layout_of, checked_answer, read_answer}
 use Rattle.sheet.specs.declared.form.Place.{Place}
 use Rattle.sheet.specs.declared.refusal.Refusal.{Refusal}
 use Rattle.reader.specs.declared.reading.Layout.{Layout}
-use Rattle.reader.specs.declared.reading.Reading.{Reading}
-use Rattle.reader.specs.declared.reading.Reading.TheVariants.{Accepted, Refused}
 use Rattle.sheet.specs.Limits.{most_positions}
-
-pub refused_told : (r : Reading) (x : Refusal) (n : ℕ) → r ≡ Refused x → n ≡ number_of x → n ≡ refusal_number r
-refused_told r x n e f = f ∙ ap refusal_number (sym e)
-
-pub ruleset numbers = (rules, refused_told)
 
 pub layout_is : (s h : List ℕ) (a b d n : ℕ) (x y z w : Place) (o : Bool) → h ≡ body_of 2 s 0 → a ≡ get_or h 0 0 → b ≡ get_or h 1 0 → d ≡ get_or h 2 0
     → x ≡ placed_at 2 s 0 → y ≡ placed_at 2 s 1 → z ≡ placed_at 2 s 2 → w ≡ placed_at 2 s 3 → n ≡ reached (game_of s)
@@ -130,14 +124,14 @@ pub ruleset reads_any = (rules, refuses_1, refuses_2, refuses_3)
 
 -- check 7
 
-module _ (s : List ℕ) (a : Reading) (e : reading_means a ≡ checked_answer s) where
-  pub stops : (x : Refusal) → a ≡ Refused x → reading_means a ≡ read_answer s
+module _ (s : List ℕ) (a : Result Layout Refusal) (e : answer_of a ≡ checked_answer s) where
+  pub stops : (x : Refusal) → a ≡ Err x → answer_of (Err x) ≡ read_answer s
   unfolding read_answer on_accepted
   stops x f = rw (sym e, f)
 
-  module _ (l : Layout) (f : a ≡ Accepted l) where
+  module _ (l : Layout) (f : a ≡ Ok l) where
     six_passed : checked_answer s ≡ accepted l
-    six_passed = sym e ∙ ap reading_means f
+    six_passed = sym e ∙ ap answer_of f
 
     pub few_read : (p : List ℕ) → p ≡ part_at s l.positions → length p ≤ most_positions
     few_read p g =

@@ -1,16 +1,13 @@
--- Reading a game sheet: the answer to every list of bytes, and what the code's answer means in those terms. Assumes nothing.
+-- Reading a game sheet: the answer to every list of bytes. Assumes nothing.
 use Rattle.std.specs.Prelude.{ℕ, List}
-use Rattle.theory.specs.Answer.{Answer, refused, accepted, check, on_accepted}
+use Rattle.theory.specs.Answer.{Answer, accepted, check, on_accepted}
 use Rattle.theory.specs.Reach.{reached}
 use Rattle.sheet.specs.Limits.{width}
 use Rattle.sheet.specs.Form.{contents_ok, placed_at}
-use Rattle.sheet.specs.Refusals.{number_of}
 use Rattle.reader.specs.Checks.{positions_ok, header_ok, targets_ok, moves_ok, gates_ok, all_leave, size_ok}
 use Rattle.sheet.specs.Bodies.{letters_of, header_body, positions_body, targets_body, moves_body, is_holding, start_of, action_count, delay_of}
 use Rattle.sheet.specs.SheetGame.{game_of}
 use Rattle.reader.specs.declared.reading.Layout.{Layout}
-use Rattle.reader.specs.declared.reading.Reading.{Reading}
-use Rattle.reader.specs.declared.reading.Reading.TheVariants.{Accepted, Refused}
 
 -- "the start bytes and the places of the bodies", W-201's "number of positions that lie on some play from the start", and whether the
 -- gates hold (W-207)
@@ -44,13 +41,3 @@ unfoldable pub read_answer : List ℕ → Answer Layout
 read_answer s =
     on_accepted (checked_answer s)
     (λ l. check (size_ok (positions_body s) (action_count s) (delay_of s)) 7 (accepted l))
-
--- document 01's number and values for every case of the code's answer
-abbrev pub reading_means : Reading → Answer Layout
-reading_means (Accepted l) = accepted l
-reading_means (Refused r) = refused (number_of r)
-
--- the number alone, 0 where the reading was accepted
-abbrev pub refusal_number : Reading → ℕ
-refusal_number (Accepted l) = 0
-refusal_number (Refused r) = number_of r

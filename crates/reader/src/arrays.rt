@@ -4,7 +4,7 @@ ghost use Rattle.reader.specs.code.Laid.{grid_at};
 
 use crate::reading::Layout;
 use gates::hold::grid_for;
-use sheet::form::{part, wide};
+use sheet::form::part;
 use sheet::limits::{ROW, ROWS};
 
 // The grid of targets, which every operation that walks a game reads: completed where the gates hold.
@@ -12,5 +12,5 @@ pub fn grid_at(sheet: &[u8], l: Layout) -> [[u16; ROW]; ROWS]
     ensures { result ≡ grid_at sheet.now l }
 {
     let targets = l.targets;
-    grid_for(part(sheet, targets), wide(l.actions), l.holding)
+    grid_for(part(sheet, targets), usize::from(l.actions), l.holding)
 }

@@ -5,7 +5,6 @@ ghost use Rattle.sheet.specs.Limits.{most_positions};
 ghost use Rattle.reader.specs.Checks.{key_at, rises_at, target_ok, targets_ok, move_ok, moves_ok, has_line, all_leave};
 ghost use Rattle.reader.specs.code.Steps.{leaves_by};
 
-use sheet::form::wide;
 use sheet::kinds::{controller_at, environment_at};
 use sheet::limits::{MOST_MOVES, ROWS};
 
@@ -14,7 +13,7 @@ fn key(b: &[u8], i: usize) -> usize
     requires { i + 1 < length b.now }
     ensures { result ≡ key_at b.now i }
 {
-    wide(b[i]) * 256 + wide(b[i + 1])
+    usize::from(b[i]) * 256 + usize::from(b[i + 1])
 }
 
 // Has line k a larger key than the one before it?
@@ -35,14 +34,14 @@ fn target_ok(p: &[u8], actions: u8, c: &[u8], k: usize) -> bool
     requires { 3 * k + 2 < length c.now }
     ensures { result ≡ target_ok p.now actions c.now k }
 {
-    if !controller_at(p, wide(c[3 * k])) {
+    if !controller_at(p, usize::from(c[3 * k])) {
         return false;
     }
     let action = c[3 * k + 1];
     if actions <= action {
         return false;
     }
-    if !environment_at(p, wide(c[3 * k + 2])) {
+    if !environment_at(p, usize::from(c[3 * k + 2])) {
         return false;
     }
     rises(3, c, k)
@@ -70,10 +69,10 @@ fn move_ok(p: &[u8], u: &[u8], k: usize) -> bool
     requires { 2 * k + 1 < length u.now }
     ensures { result ≡ move_ok p.now u.now k }
 {
-    if !environment_at(p, wide(u[2 * k])) {
+    if !environment_at(p, usize::from(u[2 * k])) {
         return false;
     }
-    if !controller_at(p, wide(u[2 * k + 1])) {
+    if !controller_at(p, usize::from(u[2 * k + 1])) {
         return false;
     }
     rises(2, u, k)
@@ -106,7 +105,7 @@ fn begun(width: usize, b: &[u8], n: usize) -> [bool; ROWS]
 {
     let mut begun = [false; ROWS];
     for k in 0..n {
-        let from = wide(b[width * k]);
+        let from = usize::from(b[width * k]);
         begun[from] = true;
     }
     begun

@@ -9,7 +9,7 @@ ghost use Rattle.reader.specs.code.Reaching.{Queued, Grown, queue_of, is_positio
 
 use gates::hold::grid_for;
 use gates::kind::is_holding;
-use sheet::form::{body, byte, wide, wide16};
+use sheet::form::{body, byte};
 use sheet::grid::target;
 use sheet::limits::{INDEX, ROW, ROWS};
 use sheet::moves::first_lines;
@@ -46,7 +46,7 @@ fn join_targets(
 {
     let mut last = found;
     for x in 0..actions {
-        last = join(marks, queue, last, wide16(target(grid, q, x)));
+        last = join(marks, queue, last, usize::from(target(grid, q, x)));
     }
     last
 }
@@ -66,7 +66,7 @@ fn join_moves(
 {
     let mut last = found;
     for line in first..end {
-        last = join(marks, queue, last, wide(byte(u, 2 * line + 1)));
+        last = join(marks, queue, last, usize::from(byte(u, 2 * line + 1)));
     }
     last
 }
@@ -87,8 +87,8 @@ fn join_next(
         (queue_of marks.old queue.old found) (queue_of marks.new queue.new result) }
 {
     let last = join_targets(grid, actions, q, marks, queue, found);
-    let first = wide16(firsts[q]);
-    let end = wide16(firsts[q + 1]);
+    let first = usize::from(firsts[q]);
+    let end = usize::from(firsts[q + 1]);
     join_moves(u, first, end, marks, queue, last)
 }
 
@@ -99,15 +99,15 @@ pub(crate) fn reach(s: &[u8]) -> usize
 {
     let h = body(s, 0);
     let u = body(s, 3);
-    let actions = wide(byte(h, 1));
+    let actions = usize::from(byte(h, 1));
     let grid = grid_for(body(s, 2), actions, is_holding(s));
     let firsts = first_lines(u);
     let mut marks = [false; ROWS];
     let mut queue = [0u8; ROWS];
-    let mut found = join(&mut marks, &mut queue, 0, wide(byte(h, 0)));
+    let mut found = join(&mut marks, &mut queue, 0, usize::from(byte(h, 0)));
     let mut done: usize = 0;
     while done < found {
-        let q = wide(queue[done]);
+        let q = usize::from(queue[done]);
         found = join_next(&grid, u, &firsts, actions, q, &mut marks, &mut queue, found);
         done += 1;
     }

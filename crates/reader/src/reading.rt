@@ -1,21 +1,22 @@
 // Reading a game sheet: document 01's refusals 1 to 7 and W-207's 24, in the order written, and how many positions its plays come to.
 ghost use Rattle.std.specs.Prelude.{◌≡◌};
 ghost use Rattle.reader.specs.Checks.{header_ok};
-ghost use Rattle.reader.specs.Reading.{layout_of, checked_answer, read_answer, reading_means, refusal_number};
+ghost use Rattle.reader.specs.Reading.{layout_of, checked_answer, read_answer};
+ghost use Rattle.sheet.specs.Refusals.{answer_of};
 ghost use Rattle.reader.specs.code.Steps.{lines_answer, Headed, Checked};
 
 use crate::checks::{gates_ok, letters_ok, positions_ok, size_ok};
 use crate::lines::{all_leave, moves_ok, targets_ok};
 use crate::reach::reach;
 use gates::kind::is_holding;
-use sheet::form::{Place, body, byte, part, placed, wide};
+use sheet::form::{Place, body, byte, part, placed};
 use sheet::kinds::controller_at;
 use sheet::limits::{MOST_ACTIONS, MOST_DELAY};
 use sheet::refusal::Refusal;
 
 // What an accepted reading carries: the start bytes, the places of the bodies, how many positions lie on plays, and whether the
 // gates hold.
-#[derive(Clone, Copy)]
+#[derive(Clone, Copy, Debug, PartialEq, Eq)]
 pub struct Layout {
     pub start: u8,
     pub actions: u8,
@@ -26,25 +27,6 @@ pub struct Layout {
     pub moves: Place,
     pub reached: usize,
     pub holding: bool,
-}
-
-// The answer to every list of bytes.
-#[derive(Clone, Copy)]
-pub enum Reading {
-    Accepted(Layout),
-    Refused(Refusal),
-}
-
-impl Reading {
-    // The number of a reading's refusal, 0 where it was accepted: what `let else` hands on, as its else binds nothing.
-    pub fn refusal_number(self) -> u8
-        ensures { result ≡ refusal_number self }
-    {
-        match self {
-            Reading::Accepted(_) => 0,
-            Reading::Refused(refusal) => refusal.number(),
-        }
-    }
 }
 
 // Check 3.
@@ -65,7 +47,7 @@ fn header_ok(p: &[u8], h: &[u8]) -> bool
     if MOST_DELAY < delay {
         return false;
     }
-    controller_at(p, wide(h[0]))
+    controller_at(p, usize::from(h[0]))
 }
 
 // The layout of a sheet that passes checks 1 to 6 and 24.
@@ -97,55 +79,52 @@ fn layout_at(s: &[u8]) -> Layout
 }
 
 // Checks 4, 5, 24 and 6, and acceptance.
-fn check_lines(s: &[u8]) -> Reading
+fn check_lines(s: &[u8]) -> Result<Layout, Refusal>
     requires { Headed s.now }
-    ensures { reading_means result ≡ lines_answer s.now }
+    ensures { answer_of result ≡ lines_answer s.now }
 {
     let p = body(s, 1);
     let c = body(s, 2);
     let u = body(s, 3);
     if !targets_ok(p, byte(body(s, 0), 1), c) {
-        return Reading::Refused(Refusal::Targets);
+        return Err(Refusal::Targets);
     }
     if !moves_ok(p, u) {
-        return Reading::Refused(Refusal::Moves);
+        return Err(Refusal::Moves);
     }
     if !gates_ok(s) {
-        return Reading::Refused(Refusal::Gates);
+        return Err(Refusal::Gates);
     }
     if !all_leave(p, c, u) {
-        return Reading::Refused(Refusal::Stuck);
+        return Err(Refusal::Stuck);
     }
-    Reading::Accepted(layout_at(s))
+    Ok(layout_at(s))
 }
 
 // Reading a game sheet of any size: all checks but 7 in the order written.
-pub fn read_any(sheet: &[u8]) -> Reading
-    ensures { reading_means result ≡ checked_answer sheet.now }
+pub fn read_any(sheet: &[u8]) -> Result<Layout, Refusal>
+    ensures { answer_of result ≡ checked_answer sheet.now }
 {
     if !letters_ok(sheet) {
-        return Reading::Refused(Refusal::Contents);
+        return Err(Refusal::Contents);
     }
     let p = body(sheet, 1);
     if !positions_ok(p) {
-        return Reading::Refused(Refusal::Positions);
+        return Err(Refusal::Positions);
     }
     if !header_ok(p, body(sheet, 0)) {
-        return Reading::Refused(Refusal::Header);
+        return Err(Refusal::Header);
     }
     check_lines(sheet)
 }
 
 // Reading a game sheet: those checks, and 7.
-pub fn read(sheet: &[u8]) -> Reading
-    ensures { reading_means result ≡ read_answer sheet.now }
+pub fn read(sheet: &[u8]) -> Result<Layout, Refusal>
+    ensures { answer_of result ≡ read_answer sheet.now }
 {
-    let reading = read_any(sheet);
-    let Reading::Accepted(l) = reading else {
-        return reading;
-    };
+    let l = read_any(sheet)?;
     if !size_ok(part(sheet, l.positions), l.actions, l.delay) {
-        return Reading::Refused(Refusal::Size);
+        return Err(Refusal::Size);
     }
-    reading
+    Ok(l)
 }

@@ -1,11 +1,20 @@
--- The number of a refusal, as the code of src/refusal.rt finds it. Assumes nothing.
-use Prim.Native.Nat.{ℕ}
+-- What a caller learns from the arm of a result that it is in: the answer that the result is (specs/Refusals.antt). Assumes nothing.
 use mathlib.Core.Path.{◌≡◌, sym, ◌∙◌, ap}
-use borrow.Author.Rules.{rules}
-use Rattle.sheet.specs.Refusals.{number_of}
+use Rattle.std.specs.Prelude.{Result, Ok, Err}
+use Rattle.theory.specs.Answer.{Answer, refused, accepted}
+use Rattle.sheet.specs.Refusals.{number_of, answer_of, answer_by}
 use Rattle.sheet.specs.declared.refusal.Refusal.{Refusal}
 
-pub number_told : (r x : Refusal) (n : ℕ) → r ≡ x → n ≡ number_of x → n ≡ number_of r
-number_told r x n e f = f ∙ ap number_of (sym e)
+module _ {A : Type 0} (r : Result A Refusal) (a : Answer A) (e : answer_of r ≡ a) where
+  pub answer_accepted : (x : A) → r ≡ Ok x → a ≡ accepted x
+  answer_accepted x f = sym e ∙ ap answer_of f
 
-pub ruleset numbers = (rules, number_told)
+  pub answer_refused : (x : Refusal) → r ≡ Err x → a ≡ refused (number_of x)
+  answer_refused x f = sym e ∙ ap answer_of f
+
+module _ {A B : Type 0} (f : A → B) (r : Result A Refusal) (a : Answer B) (e : answer_by f r ≡ a) where
+  pub by_accepted : (x : A) → r ≡ Ok x → a ≡ accepted (f x)
+  by_accepted x g = sym e ∙ ap (answer_by f) g
+
+  pub by_refused : (x : Refusal) → r ≡ Err x → a ≡ refused (number_of x)
+  by_refused x g = sym e ∙ ap (answer_by f) g

@@ -26,15 +26,15 @@ use Rattle.sheet.specs.Limits.{width, most_actions, most_delay, most_nodes}
 use Rattle.sheet.specs.Form.{contents_ok, placed_at, part_at, body_of}
 use Rattle.sheet.specs.Size.{nodes_of}
 use Rattle.sheet.specs.code.Steps.{power_to, most_power}
-use Rattle.sheet.specs.Refusals.{number_of}
+use Rattle.std.specs.Prelude.{Result, Ok, Err}
+use Rattle.sheet.specs.Refusals.{number_of, answer_by}
+use Rattle.sheet.proofs.RefusalLaws.{by_refused}
 use Rattle.sheet.specs.declared.form.Place.{Place}
 use Rattle.sheet.specs.declared.refusal.Refusal.{Refusal}
 use Rattle.table.specs.TableSheet.{TableSheet, table_letters, table_layout, says, table_at, decode, table_nodes, numbers_ok, below_at, bytes_below, bodies_ok, shape_answer, some_flagged, table_answer}
-use Rattle.table.specs.TableSheet.{masks_in, masks_of, table_reading_means}
+use Rattle.table.specs.TableSheet.{masks_in, masks_of}
 use Rattle.table.specs.code.Steps.{ranges_ok, filled_ok}
 use Rattle.table.specs.declared.reading.TableLayout.{TableLayout}
-use Rattle.table.specs.declared.reading.TableReading.{TableReading}
-use Rattle.table.specs.declared.reading.TableReading.TheVariants.{Accepted, Refused}
 use Rattle.sheet.proofs.SizeLaws.{power_bound, small_power}
 
 -- the layout
@@ -268,7 +268,7 @@ module _ (s : List ℕ) (r₁ : Bool) (e₁ : r₁ ≡ contents_ok width table_l
         pub refuses_bodies : not r₃ ≡ true → refused 11 ≡ shape_answer s
         refuses_bodies x = sym (after_size ∙ check_passed _ _ _ (passed two t₂) ∙ check_failed _ _ _ (failed three x))
 
-        pub shape_read : (a : Answer TableSheet) → not r₃ ≡ false → a ≡ table_reading_means s (Accepted l) → a ≡ shape_answer s
+        pub shape_read : (a : Answer TableSheet) → not r₃ ≡ false → a ≡ accepted (table_at s l) → a ≡ shape_answer s
         shape_read a x e =
             e
             ∙ ap accepted (says_same s l el)
@@ -311,15 +311,15 @@ some_any : (w a b : List ℕ) → some_flagged (record { flags = w; masks = a })
 unfolding some_flagged flagged
 some_any w a b = refl
 
-module _ (s : List ℕ) (y : TableReading) (ey : table_reading_means s y ≡ shape_answer s) where
-  pub shape_refused : (x : Refusal) → y ≡ Refused x → table_reading_means s y ≡ table_answer s
+module _ (s : List ℕ) (y : Result TableLayout Refusal) (ey : answer_by (table_at s) y ≡ shape_answer s) where
+  pub shape_refused : (x : Refusal) → y ≡ Err x → refused (number_of x) ≡ table_answer s
   unfolding table_answer on_accepted
-  shape_refused x e = let f : shape_answer s ≡ refused (number_of x) = sym ey ∙ ap (table_reading_means s) e in ap (table_reading_means s) e ∙ sym (rw f refl)
+  shape_refused x e = rw (by_refused (table_at s) y _ ey x e)
 
-  module _ (l : TableLayout) (el : y ≡ Accepted l) (w : List ℕ) (ew : w ≡ part_at s l.flags) (r : Bool)
+  module _ (l : TableLayout) (el : y ≡ Ok l) (w : List ℕ) (ew : w ≡ part_at s l.flags) (r : Bool)
       (er : r ≡ some_flagged (record { flags = w; masks = [] })) where
     shape : shape_answer s ≡ accepted (table_at s l)
-    shape = sym ey ∙ ap (table_reading_means s) el
+    shape = sym ey ∙ ap (answer_by (table_at s)) el
 
     some : r ≡ some_flagged (table_at s l).table
     some = er ∙ ap (λ b. some_flagged (record { flags = b; masks = [] })) ew ∙ some_any _ _ _
@@ -336,13 +336,13 @@ pub ruleset reads = (rules, shape_refused, refuses_12, table_read)
 
 -- the part that holds the masks
 
-module _ (s : List ℕ) (y : TableReading) (ey : table_reading_means s y ≡ table_answer s) where
-  pub masks_none : (x : Refusal) → y ≡ Refused x → [] ≡ masks_of s
+module _ (s : List ℕ) (y : Result TableLayout Refusal) (ey : answer_by (table_at s) y ≡ table_answer s) where
+  pub masks_none : (x : Refusal) → y ≡ Err x → [] ≡ masks_of s
   unfolding masks_of masks_in
-  masks_none x e = rw (sym ey ∙ ap (table_reading_means s) e)
+  masks_none x e = rw (sym ey ∙ ap (answer_by (table_at s)) e)
 
-  pub masks_some : (l : TableLayout) (t : List ℕ) → y ≡ Accepted l → t ≡ body_of width s 2 → t ≡ masks_of s
+  pub masks_some : (l : TableLayout) (t : List ℕ) → y ≡ Ok l → t ≡ body_of width s 2 → t ≡ masks_of s
   unfolding masks_of masks_in
-  masks_some l t e f = rw (sym ey ∙ ap (table_reading_means s) e) f
+  masks_some l t e f = rw (sym ey ∙ ap (answer_by (table_at s)) e) f
 
 pub ruleset masks_laws = (rules, masks_none, masks_some)

@@ -1,5 +1,4 @@
--- Reading a table sheet, document 01's "winning sheet": "S, W, T". The answer to every list of bytes, and what the code's answer
--- means in those terms. Assumes nothing.
+-- Reading a table sheet, document 01's "winning sheet": "S, W, T". The answer to every list of bytes. Assumes nothing.
 use Rattle.std.specs.Prelude.{ℕ, ◌+◌, ◌^◌, Bool, List, [], ◌∷◌, eqb, leb, ltb, length, get_or}
 use Rattle.theory.specs.Fold.{both, all_below, any_below}
 use Rattle.theory.specs.Answer.{Answer, refused, accepted, check, on_accepted}
@@ -8,10 +7,7 @@ use Rattle.theory.specs.Table.{Table, flagged}
 use Rattle.sheet.specs.Limits.{width, most_actions, most_delay, most_nodes}
 use Rattle.sheet.specs.Form.{contents_ok, placed_at, part_at, body_of}
 use Rattle.sheet.specs.Size.{nodes_of}
-use Rattle.sheet.specs.Refusals.{number_of}
 use Rattle.table.specs.declared.reading.TableLayout.{TableLayout}
-use Rattle.table.specs.declared.reading.TableReading.{TableReading}
-use Rattle.table.specs.declared.reading.TableReading.TheVariants.{Accepted, Refused}
 
 -- S, W, T: with two-byte numbers, "15 bytes of contents"
 abbrev pub table_letters : List ℕ
@@ -102,8 +98,3 @@ masks_in s (accepted x) = body_of width s 2
 
 unfoldable pub masks_of : List ℕ → List ℕ
 masks_of s = masks_in s (table_answer s)
-
--- document 01's number and values for every case of the code's answer, the sheet being s
-abbrev pub table_reading_means : List ℕ → TableReading → Answer TableSheet
-table_reading_means s (Accepted l) = accepted (table_at s l)
-table_reading_means s (Refused r) = refused (number_of r)

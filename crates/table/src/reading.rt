@@ -2,11 +2,12 @@
 ghost use Rattle.std.specs.Prelude.{◌≡◌, [], ◌*◌, ◌%◌, ◌^◌, ◌≤◌, length, get_or};
 ghost use Rattle.sheet.specs.Limits.{most_actions, most_delay};
 ghost use Rattle.sheet.specs.code.Steps.{most_power};
-ghost use Rattle.table.specs.TableSheet.{table_layout, says, bytes_below, shape_answer, some_flagged, table_answer};
-ghost use Rattle.table.specs.TableSheet.{masks_of, table_reading_means};
+ghost use Rattle.table.specs.TableSheet.{table_layout, says, table_at, bytes_below, shape_answer, some_flagged};
+ghost use Rattle.table.specs.TableSheet.{table_answer, masks_of};
+ghost use Rattle.sheet.specs.Refusals.{answer_by};
 ghost use Rattle.table.specs.code.Steps.{ranges_ok, filled_ok};
 
-use sheet::form::{Place, body, byte, contents_ok, part, placed, wide};
+use sheet::form::{Place, body, byte, contents_ok, part, placed};
 use sheet::limits::{MOST_ACTIONS, MOST_DELAY, MOST_NODES};
 use sheet::refusal::Refusal;
 use sheet::size::power;
@@ -15,7 +16,7 @@ use sheet::size::power;
 const BYTE: u8 = 8;
 
 // What an accepted reading carries: the start bytes and the places of the W and T bodies.
-#[derive(Clone, Copy)]
+#[derive(Clone, Copy, Debug, PartialEq, Eq)]
 pub struct TableLayout {
     pub start: u8,
     pub actions: u8,
@@ -23,12 +24,6 @@ pub struct TableLayout {
     pub highest: u8,
     pub flags: Place,
     pub masks: Place,
-}
-
-#[derive(Clone, Copy)]
-pub enum TableReading {
-    Accepted(TableLayout),
-    Refused(Refusal),
 }
 
 fn layout_at(s: &[u8]) -> TableLayout
@@ -75,7 +70,7 @@ fn first_words(actions: u8, delay: u8, pending: usize) -> usize
     if delay % 2 == 0 {
         return pending;
     }
-    pending * wide(actions)
+    pending * usize::from(actions)
 }
 
 // Has no byte a bit at n or above? Every call of the controller reads its whole sheet: the loop has no exit, so that it compiles to
@@ -101,8 +96,8 @@ fn bodies_ok(l: TableLayout, w: &[u8], t: &[u8]) -> bool
     requires { (l.actions ≤ most_actions) × (l.delay ≤ most_delay) }
     ensures { result ≡ filled_ok (says l w.now t.now) }
 {
-    let pending = power(l.actions, wide(l.delay) / 2);
-    let nodes = (wide(l.highest) + 1) * pending;
+    let pending = power(l.actions, usize::from(l.delay) / 2);
+    let nodes = (usize::from(l.highest) + 1) * pending;
     if MOST_NODES < nodes {
         return false;
     }
@@ -119,26 +114,24 @@ fn bodies_ok(l: TableLayout, w: &[u8], t: &[u8]) -> bool
 }
 
 // Checks 10 and 11. Reading ends here where first words don't matter.
-pub fn read_shape(sheet: &[u8]) -> TableReading
-    ensures { table_reading_means sheet.now result ≡ shape_answer sheet.now }
+pub fn read_shape(sheet: &[u8]) -> Result<TableLayout, Refusal>
+    ensures { answer_by (table_at sheet.now) result ≡ shape_answer sheet.now }
 {
     if !contents_ok(sheet, b"SWT") {
-        return TableReading::Refused(Refusal::TableContents);
+        return Err(Refusal::TableContents);
     }
     let h = body(sheet, 0);
     if h.len() != 4 {
-        return TableReading::Refused(Refusal::TableShape);
+        return Err(Refusal::TableShape);
     }
     let l = layout_at(sheet);
     if !numbers_ok(l) {
-        return TableReading::Refused(Refusal::TableShape);
+        return Err(Refusal::TableShape);
     }
-    let flags = l.flags;
-    let masks = l.masks;
-    if !bodies_ok(l, part(sheet, flags), part(sheet, masks)) {
-        return TableReading::Refused(Refusal::TableShape);
+    if !bodies_ok(l, part(sheet, l.flags), part(sheet, l.masks)) {
+        return Err(Refusal::TableShape);
     }
-    TableReading::Accepted(l)
+    Ok(l)
 }
 
 // Is some byte of the W body not 0?
@@ -154,28 +147,23 @@ pub fn some_flagged(w: &[u8]) -> bool
 }
 
 // Checks 10 and 11, then 12.
-pub fn read(sheet: &[u8]) -> TableReading
-    ensures { table_reading_means sheet.now result ≡ table_answer sheet.now }
+pub fn read(sheet: &[u8]) -> Result<TableLayout, Refusal>
+    ensures { answer_by (table_at sheet.now) result ≡ table_answer sheet.now }
 {
-    let reading = read_shape(sheet);
-    let TableReading::Accepted(l) = reading else {
-        return reading;
-    };
-    let flags = l.flags;
-    if !some_flagged(part(sheet, flags)) {
-        return TableReading::Refused(Refusal::NoInitialWord);
+    let l = read_shape(sheet)?;
+    if !some_flagged(part(sheet, l.flags)) {
+        return Err(Refusal::NoInitialWord);
     }
-    TableReading::Accepted(l)
+    Ok(l)
 }
 
 // The T body as that part of the caller's sheet: body 2 where the sheet is accepted, and an empty part where it is refused.
 pub fn masks(sheet: &[u8]) -> &[u8]
     ensures { result.now ≡ masks_of sheet.now }
 {
-    let reading = read(sheet);
-    let TableReading::Accepted(_) = reading else {
-        return &sheet[..0];
-    };
+    if read(sheet).is_err() {
+        return &[];
+    }
     body(sheet, 2)
 }
 
@@ -190,5 +178,5 @@ pub fn mask_count(masks: &[u8]) -> usize
 pub fn mask_of(masks: &[u8], k: usize) -> usize
     ensures { result ≡ get_or masks.now k 0 }
 {
-    wide(byte(masks, k))
+    usize::from(byte(masks, k))
 }

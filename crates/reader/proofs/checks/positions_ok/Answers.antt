@@ -12,9 +12,6 @@ returns-then-n-gt-MOST_POSITIONS c = search positions
 pub loop-q-init : goal.loop-q-init
 loop-q-init c = search positions
 
-pub known_at-requires : goal.known_at-requires
-known_at-requires c = search positions
-
 pub returns-then-not-known_at : goal.returns-then-not-known_at
 returns-then-not-known_at c = search positions
 

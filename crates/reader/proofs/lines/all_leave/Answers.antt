@@ -3,17 +3,8 @@
 use Rattle.reader.proofs.CheckLaws.{leaving}
 use Rattle.reader.proofs.lines.all_leave.Goals as goal
 
-pub begun-targets-requires : goal.begun-targets-requires
-begun-targets-requires c = search leaving
-
-pub begun-moves-requires : goal.begun-moves-requires
-begun-moves-requires c = search leaving
-
 pub loop-q-init : goal.loop-q-init
 loop-q-init c = search leaving
-
-pub leaves_at-requires : goal.leaves_at-requires
-leaves_at-requires c = search leaving
 
 pub returns-then-not-leaves_at : goal.returns-then-not-leaves_at
 returns-then-not-leaves_at c = search leaving

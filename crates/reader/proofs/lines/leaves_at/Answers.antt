@@ -2,9 +2,6 @@
 use Rattle.reader.proofs.CheckLaws.{a_leaving}
 use Rattle.reader.proofs.lines.leaves_at.Goals as goal
 
-pub controller_at-requires : goal.controller_at-requires
-controller_at-requires c = search a_leaving
-
 pub returns-then-controller_at : goal.returns-then-controller_at
 returns-then-controller_at c = search a_leaving
 

@@ -2,26 +2,11 @@
 use Rattle.reader.proofs.CheckLaws.{a_move}
 use Rattle.reader.proofs.lines.move_ok.Goals as goal
 
-pub wide-requires : goal.wide-requires
-wide-requires c = search a_move
-
-pub environment_at-requires : goal.environment_at-requires
-environment_at-requires c = search a_move
-
 pub returns-then-not-environment_at : goal.returns-then-not-environment_at
 returns-then-not-environment_at c = search a_move
 
-pub wide-requires-2 : goal.wide-requires-2
-wide-requires-2 c = search a_move
-
-pub controller_at-requires : goal.controller_at-requires
-controller_at-requires c = search a_move
-
 pub returns-then-not-controller_at : goal.returns-then-not-controller_at
 returns-then-not-controller_at c = search a_move
-
-pub rises-requires : goal.rises-requires
-rises-requires c = search a_move
 
 pub returns : goal.returns
 returns c = search a_move

@@ -12,9 +12,6 @@ returns-then-n-gt-MOST_MOVES c = search moves
 pub loop-k-init : goal.loop-k-init
 loop-k-init c = search moves
 
-pub move_ok-requires : goal.move_ok-requires
-move_ok-requires c = search moves
-
 pub returns-then-not-move_ok : goal.returns-then-not-move_ok
 returns-then-not-move_ok c = search moves
 

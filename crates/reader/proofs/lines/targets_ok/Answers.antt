@@ -9,9 +9,6 @@ returns-then-over-ne0 c = search targets
 pub loop-k-init : goal.loop-k-init
 loop-k-init c = search targets
 
-pub target_ok-requires : goal.target_ok-requires
-target_ok-requires c = search targets
-
 pub returns-then-not-target_ok : goal.returns-then-not-target_ok
 returns-then-not-target_ok c = search targets
 

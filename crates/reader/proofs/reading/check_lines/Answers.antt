@@ -9,35 +9,11 @@ layout_at-requires c = search checks_lines
 pub returns : goal.returns
 returns c = let r : Checked c.args.s.now = search checks_lines in accepts _ r _ c.layout_at.ensures
 
-pub body-p-requires : goal.body-p-requires
-body-p-requires c = search checks_lines
-
-pub body-c-requires : goal.body-c-requires
-body-c-requires c = search checks_lines
-
-pub body-u-requires : goal.body-u-requires
-body-u-requires c = search checks_lines
-
-pub body-requires : goal.body-requires
-body-requires c = search checks_lines
-
-pub byte-requires : goal.byte-requires
-byte-requires c = search checks_lines
-
-pub targets_ok-requires : goal.targets_ok-requires
-targets_ok-requires c = search checks_lines
-
 pub returns-then-not-targets_ok : goal.returns-then-not-targets_ok
 returns-then-not-targets_ok c = search checks_lines
 
-pub moves_ok-requires : goal.moves_ok-requires
-moves_ok-requires c = search checks_lines
-
 pub returns-then-not-moves_ok : goal.returns-then-not-moves_ok
 returns-then-not-moves_ok c = search checks_lines
-
-pub gates_ok-requires : goal.gates_ok-requires
-gates_ok-requires c = search checks_lines
 
 pub returns-then-not-gates_ok : goal.returns-then-not-gates_ok
 returns-then-not-gates_ok c = search checks_lines

@@ -14,11 +14,5 @@ returns-then-actions-gt-MOST_ACTIONS c = search header
 pub returns-then-delay-gt-MOST_DELAY : goal.returns-then-delay-gt-MOST_DELAY
 returns-then-delay-gt-MOST_DELAY c = search header
 
-pub wide-requires : goal.wide-requires
-wide-requires c = search header
-
-pub controller_at-requires : goal.controller_at-requires
-controller_at-requires c = search header
-
 pub returns : goal.returns
 returns c = search header

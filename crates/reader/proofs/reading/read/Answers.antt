@@ -2,14 +2,8 @@
 use Rattle.reader.proofs.ReadLaws.{reads}
 use Rattle.reader.proofs.reading.read.Goals as goal
 
-pub read_any-reading-requires : goal.read_any-reading-requires
-read_any-reading-requires c = search reads
-
-pub returns-in_default : goal.returns-in_default
-returns-in_default c = search reads
-
-pub part-requires : goal.part-requires
-part-requires c = search reads
+pub returns-in_err-l : goal.returns-in_err-l
+returns-in_err-l c = search reads
 
 pub size_ok-requires : goal.size_ok-requires
 size_ok-requires c = search reads

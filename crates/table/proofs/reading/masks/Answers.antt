@@ -2,14 +2,8 @@
 use Rattle.table.proofs.TableLaws.{masks_laws}
 use Rattle.table.proofs.reading.masks.Goals as goal
 
-pub read-reading-requires : goal.read-reading-requires
-read-reading-requires c = search masks_laws
-
-pub returns-in_default : goal.returns-in_default
-returns-in_default c = search masks_laws
-
-pub body-requires : goal.body-requires
-body-requires c = search masks_laws
+pub returns-then-is_err : goal.returns-then-is_err
+returns-then-is_err c = search masks_laws
 
 pub returns : goal.returns
 returns c = search masks_laws

@@ -2,32 +2,14 @@
 use Rattle.table.proofs.TableLaws.{shapes}
 use Rattle.table.proofs.reading.read_shape.Goals as goal
 
-pub contents_ok-requires : goal.contents_ok-requires
-contents_ok-requires c = search shapes
-
 pub returns-then-not-contents_ok : goal.returns-then-not-contents_ok
 returns-then-not-contents_ok c = search shapes
-
-pub body-h-requires : goal.body-h-requires
-body-h-requires c = search shapes
 
 pub returns-then-h-ne4 : goal.returns-then-h-ne4
 returns-then-h-ne4 c = search shapes
 
-pub layout_at-l-requires : goal.layout_at-l-requires
-layout_at-l-requires c = search shapes
-
-pub numbers_ok-requires : goal.numbers_ok-requires
-numbers_ok-requires c = search shapes
-
 pub returns-then-not-numbers_ok : goal.returns-then-not-numbers_ok
 returns-then-not-numbers_ok c = search shapes
-
-pub part-requires : goal.part-requires
-part-requires c = search shapes
-
-pub part-requires-2 : goal.part-requires-2
-part-requires-2 c = search shapes
 
 pub bodies_ok-requires : goal.bodies_ok-requires
 bodies_ok-requires c = search shapes
