@@ -10,7 +10,7 @@ use crate::cut::cut;
 use crate::strike::{MOVES, drain, note_moves};
 use rule::part::fill_marks;
 use sheet::limits::{INDEX, MOST_NODES, ROW, ROWS};
-use walk::level::{Level, is_sized};
+use walk::level::Level;
 
 // The nodes of which a queue tells. Where more fall in one sweep than half of them, another sweep costs less than a look at all nodes
 // before them.
@@ -147,7 +147,7 @@ pub fn prune(
     ensures { PrunedLeft p.now grid.now u.now firsts.now level masks.old
         masks.new }
 {
-    if !is_sized(p.len(), level) {
+    if !level.is_sized(p.len()) {
         return;
     }
     if level.actions < 1 {

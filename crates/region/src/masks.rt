@@ -6,8 +6,8 @@ ghost use Rattle.region.specs.code.Kept.{allowed_in, mask_in, masks_in, masks_af
 
 use crate::words::kept;
 use sheet::limits::{INDEX, ROW, ROWS};
-use walk::level::{Level, is_sized};
-use walk::walk::spoilt;
+use walk::arena::{Arena, Fallen};
+use walk::level::Level;
 
 // The bits of the actions that are not spoilt at node k, which is kept.
 fn allowed(
@@ -24,11 +24,13 @@ fn allowed(
     ensures { result
         ≡ allowed_in (arena_of p.now grid.now u.now firsts.now level) n ranks.now k }
 {
+    let arena = Arena { positions: p, grid, moves: u, firsts, level };
+    let fallen = Fallen { marks: ranks, last: n };
     let mut mask: usize = 0;
     let mut bit: usize = 1;
     let mut c: usize = 0;
     while c < level.actions {
-        if !spoilt(p, grid, u, firsts, level, ranks, n, k, c) {
+        if !arena.spoilt(&fallen, k, c) {
             mask += bit;
         }
         bit *= 2;
@@ -93,7 +95,7 @@ pub fn fill_masks(
         ≡ masks_after p.now grid.now u.now firsts.now level n
         ranks.now masks.old }
 {
-    if !is_sized(p.len(), level) {
+    if !level.is_sized(p.len()) {
         return;
     }
     if masks.len() != level.nodes {

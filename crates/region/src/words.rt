@@ -14,7 +14,7 @@ use sheet::form::{part, wide16};
 use sheet::grid::target;
 use sheet::kinds::{on_right, safe_at};
 use sheet::limits::{ABSENT, MOST_POSITIONS, ROW, ROWS};
-use walk::level::{Level, is_sized, level_at};
+use walk::level::{Level, level_at};
 
 pub(crate) fn kept(p: &[u8], level: Level, ranks: &[u16], k: usize) -> bool
     requires { Sized (length p.now) level }
@@ -86,7 +86,7 @@ fn any_good(p: &[u8], grid: &[[u16; ROW]; ROWS], level: Level, ranks: &[u16]) ->
 pub fn some_good(p: &[u8], grid: &[[u16; ROW]; ROWS], level: Level, ranks: &[u16]) -> bool
     ensures { result ≡ some_good p.now grid.now level ranks.now }
 {
-    if !is_sized(p.len(), level) {
+    if !level.is_sized(p.len()) {
         return false;
     }
     if MOST_POSITIONS <= level.start {

@@ -7,8 +7,8 @@ ghost use Rattle.rounds.specs.code.Falling.{first_rank, falls_to, AtMost, RoundL
 
 use sheet::kinds::{on_right, safe_at};
 use sheet::limits::{INDEX, ROW, ROWS};
-use walk::level::{Level, is_sized};
-use walk::walk::all_spoilt;
+use walk::arena::{Arena, Fallen};
+use walk::level::Level;
 
 fn first_rank(p: &[u8], level: Level, k: usize) -> u16
     requires { Sized (length p.now) level }
@@ -55,7 +55,8 @@ fn falls_now(
     if !on_right(p, level.odd, k / level.words) {
         return false;
     }
-    all_spoilt(p, grid, u, firsts, level, ranks, n, k)
+    let arena = Arena { positions: p, grid, moves: u, firsts, level };
+    arena.all_spoilt(&Fallen { marks: ranks, last: n }, k)
 }
 
 // Round n + 1, after n rounds. A node that falls now has rank n + 1, so it does not count as fallen until the next round. Says
@@ -119,7 +120,7 @@ pub fn rounds(
     ensures { RanksLeft p.now grid.now u.now firsts.now level
         ranks.old ranks.new result }
 {
-    if !is_sized(p.len(), level) {
+    if !level.is_sized(p.len()) {
         return 0;
     }
     if ranks.len() != level.nodes {

@@ -9,8 +9,8 @@ ghost use Rattle.rule.specs.code.Parts.{mark_for, marks_after, bit_left, stays_i
 use sheet::kinds::{on_right, safe_at};
 use sheet::limits::{INDEX, ROW, ROWS};
 use table::reading::{mask_count, mask_of};
-use walk::level::{Level, is_node};
-use walk::walk::spoilt;
+use walk::arena::{Arena, Fallen};
+use walk::level::Level;
 
 pub fn mark_for(mask: usize) -> u16
     ensures { result ≡ mark_for mask }
@@ -54,7 +54,8 @@ fn bit_left(
     if left % 2 == 0 {
         return 0;
     }
-    if spoilt(p, grid, u, firsts, level, marks, 1, k, c) {
+    let arena = Arena { positions: p, grid, moves: u, firsts, level };
+    if arena.spoilt(&Fallen { marks, last: 1 }, k, c) {
         return 0;
     }
     bit
@@ -102,7 +103,7 @@ pub fn allowed_part(
 ) -> usize
     ensures { result ≡ part_in p.now grid.now u.now firsts.now level marks.now k mask }
 {
-    if !is_node(p.len(), level, k) {
+    if !level.is_node(p.len(), k) {
         return 0;
     }
     let q = k / level.words;

@@ -14,8 +14,8 @@ use sheet::form::wide16;
 use sheet::grid::target;
 use sheet::kinds::{on_right, safe_at};
 use sheet::limits::{ABSENT, INDEX, ROW, ROWS};
+use walk::arena::{Arena, Fallen};
 use walk::level::Level;
-use walk::walk::spoilt;
 
 // Every action is spoilt at so many nodes, from k on.
 fn spoil_row(
@@ -63,7 +63,8 @@ fn blocked(
         return false;
     }
     if level.odd {
-        return spoilt(p, grid, u, firsts, level, ranks, 0, b * younger, 0);
+        let arena = Arena { positions: p, grid, moves: u, firsts, level };
+        return arena.spoilt(&Fallen { marks: ranks, last: 0 }, b * younger, 0);
     }
     let t = target(grid, q, b % level.actions);
     if t == ABSENT {

@@ -5,7 +5,7 @@ use mathlib.Core.Bool.{Bool, true, false, not, cond, true≢false, false≢true}
 use mathlib.Core.Logic.{◌⊎◌, inl, inr, ⊎_elim, ◌↔◌}
 use mathlib.Core.List.Memᴰ
 use mathlib.Core.List.{List, [], ◌∷◌, ◌++◌, map, Memᴰ}
-use mathlib.Core.Option.{none, some, some-injective, none-ne-some, some-ne-none}
+use Rattle.std.proofs.Common.{Some, None, is_some}
 use native.Mathlib.Omega.{arith}
 use native.Mathlib.Nat.{eq-or-lt_of_le, le_of_suc-le-suc, le_refl}
 use native.Mathlib.Numerals.{add-one}
@@ -13,7 +13,7 @@ use lib.Dec.{eqb, leb, ltb}
 use lib.ListN.{length, get_or, set, take, drop, length-set, length-drop, get_or-eq_default}
 use lib.Seq.{get_or-set_same, get_or-set_other, ext_get_or, take_all}
 use borrow.Author.Tests.{eqb-true, eqb-false, leb-true, le-leb, ltb-true, ltb-false, not-true, not-false}
-use Rattle.theory.specs.Fold.{both, either, all_below, any_below, first_not, last_with, found, count, any_of, tabulate}
+use Rattle.theory.specs.Fold.{both, either, all_below, any_below, first_not, last_with, count, any_of, tabulate}
 
 -- a test passes or fails
 pub bool : (b : Bool) → (b ≡ true) ⊎ (b ≡ false)
@@ -290,11 +290,11 @@ first_same p q (suc n) f =
 -- the greatest index that passes
 
 module _ (p : ℕ → Bool) (i : ℕ) where
-  last_zero : last_with p i 0 ≡ none
+  last_zero : last_with p i 0 ≡ None
   unfolding last_with
   last_zero = refl
 
-  last_top : {n : ℕ} → i ≤ n → p n ≡ true → last_with p i (suc n) ≡ some n
+  last_top : {n : ℕ} → i ≤ n → p n ≡ true → last_with p i (suc n) ≡ Some n
   unfolding last_with
   last_top {n} h t = rw (both_true (leb i n) (p n) (le-leb i n h) t)
 
@@ -316,12 +316,13 @@ module _ (p : ℕ → Bool) (i : ℕ) where
   abbrev Last : ℕ → ℕ → Type 0
   Last n k = (i ≤ k) × (k < n) × (p k ≡ true) × ((j : ℕ) → k < j → j < n → p j ≡ false)
 
-  last_is : (n k : ℕ) → last_with p i n ≡ some k → Last n k
-  last_is zero k e = absurd (none-ne-some k (sym last_zero ∙ e))
+  last_is : (n k : ℕ) → last_with p i n ≡ Some k → Last n k
+  last_is zero k e = let n = last_zero in cc
   last_is (suc n) k e =
       ⊎_elim
       (λ (t : (i ≤ n) × (p n ≡ true)).
-      let q : n ≡ k = some-injective n k (sym (last_top t.0 t.1) ∙ e) in
+      let m = last_top t.0 t.1 in
+      let q : n ≡ k = cc in
       rw (← q) (t.0, omega arith, t.1, λ j a b. absurd (omega arith)))
       (λ (f : i ≤ n → p n ≡ false).
       let r = last_is n k (sym (last_below_lem f) ∙ e) in
@@ -334,7 +335,7 @@ module _ (p : ℕ → Bool) (i : ℕ) where
       ))
       (top? n)
 
-  is_last : (n k : ℕ) → Last n k → last_with p i n ≡ some k
+  is_last : (n k : ℕ) → Last n k → last_with p i n ≡ Some k
   is_last zero k r = let b = r.1 in absurd (omega arith)
   is_last (suc n) k r =
       ⊎_elim
@@ -344,14 +345,14 @@ module _ (p : ℕ → Bool) (i : ℕ) where
 
   -- W-203, for every condition: "it stops at the last line that meets the test's condition", where it holds, and at no later one does
   pub last_iff : (n k : ℕ)
-      → (last_with p i n ≡ some k) ↔ ((i ≤ k) × (k < n) × (p k ≡ true) × ((j : ℕ) → k < j → j < n → p j ≡ false))
+      → (last_with p i n ≡ Some k) ↔ ((i ≤ k) × (k < n) × (p k ≡ true) × ((j : ℕ) → k < j → j < n → p j ≡ false))
   last_iff n k = (last_is n k, is_last n k)
 
-  last_none : (n : ℕ) → last_with p i n ≡ none → (j : ℕ) → i ≤ j → j < n → p j ≡ false
+  last_none : (n : ℕ) → last_with p i n ≡ None → (j : ℕ) → i ≤ j → j < n → p j ≡ false
   last_none zero e j a b = absurd (omega arith)
   last_none (suc n) e j a b =
       ⊎_elim
-      (λ (t : (i ≤ n) × (p n ≡ true)). absurd (some-ne-none n (sym (last_top t.0 t.1) ∙ e)))
+      (λ (t : (i ≤ n) × (p n ≡ true)). let m = last_top t.0 t.1 in cc)
       (λ (f : i ≤ n → p n ≡ false).
       ⊎_elim
       (λ (m : j < n). last_none n (sym (last_below_lem f) ∙ e) j a m)
@@ -359,17 +360,17 @@ module _ (p : ℕ → Bool) (i : ℕ) where
       (below_cases b))
       (top? n)
 
-  none_last : (n : ℕ) → ((j : ℕ) → i ≤ j → j < n → p j ≡ false) → last_with p i n ≡ none
+  none_last : (n : ℕ) → ((j : ℕ) → i ≤ j → j < n → p j ≡ false) → last_with p i n ≡ None
   none_last zero f = last_zero
   none_last (suc n) f = last_below_lem (λ h. f n h (omega arith)) ∙ none_last n (λ j a b. f j a (omega arith))
 
   -- "and finds none exactly if no line does"
-  pub last_none_iff : (n : ℕ) → (last_with p i n ≡ none) ↔ ((j : ℕ) → i ≤ j → j < n → p j ≡ false)
+  pub last_none_iff : (n : ℕ) → (last_with p i n ≡ None) ↔ ((j : ℕ) → i ≤ j → j < n → p j ≡ false)
   last_none_iff n = (last_none n, none_last n)
 
   -- a search from the end down that has come to n: what its next turn finds, r being the test's result, and its end
 
-  pub last_here : {n : ℕ} {r : Bool} → i < n → r ≡ p (n - 1) → r ≡ true → last_with p i n ≡ some (n - 1)
+  pub last_here : {n : ℕ} {r : Bool} → i < n → r ≡ p (n - 1) → r ≡ true → last_with p i n ≡ Some (n - 1)
   last_here {n} h e t =
       let q : n ≡ suc (n - 1) = omega arith in
       ap (last_with p i) q ∙ last_top (omega arith) (sym e ∙ t)
@@ -379,7 +380,7 @@ module _ (p : ℕ → Bool) (i : ℕ) where
       let q : n ≡ suc (n - 1) = omega arith in
       ap (last_with p i) q ∙ last_below_lem (λ l. sym e ∙ f)
 
-  pub last_over : {n : ℕ} → n ≤ i → last_with p i n ≡ none
+  pub last_over : {n : ℕ} → n ≤ i → last_with p i n ≡ None
   last_over {n} h = none_last n (λ j a b. absurd (omega arith))
 
 -- some index below n
@@ -642,31 +643,29 @@ any_tabulate p f i (suc n) =
 
 -- a search finds something exactly if an entry of the tabulated list passes
 
-found_below : (p : ℕ → Bool) (i m : ℕ) → found (last_with p i (i + m)) ≡ any_below (λ k. p (i + k)) m
-unfolding found
-found_below p i zero = let q : i + 0 ≤ i = omega arith in ap found (last_over p i q) ∙ sym (any_none (λ k. p (i + k)))
+found_below : (p : ℕ → Bool) (i m : ℕ) → is_some (last_with p i (i + m)) ≡ any_below (λ k. p (i + k)) m
+found_below p i zero = let q : i + 0 ≤ i = omega arith in ap is_some (last_over p i q) ∙ sym (any_none (λ k. p (i + k)))
 found_below p i (suc m) =
     let q : i + suc m ≡ suc (i + m) = omega arith in
-    ap (λ n. found (last_with p i n)) q
+    ap (λ n. is_some (last_with p i n)) q
     ∙ ⊎_elim
-    (λ (t : p (i + m) ≡ true). ap found (last_top p i (omega arith) t) ∙ sym (any_suc (λ k. p (i + k)) m ∙ either_right _ _ t))
+    (λ (t : p (i + m) ≡ true). ap is_some (last_top p i (omega arith) t) ∙ sym (any_suc (λ k. p (i + k)) m ∙ either_right _ _ t))
     (λ (f : p (i + m) ≡ false).
-    ap found (last_below_lem p i (λ h. f))
+    ap is_some (last_below_lem p i (λ h. f))
     ∙ found_below p i m
     ∙ sym (any_suc (λ k. p (i + k)) m ∙ either_first _ _ f))
     (bool (p (i + m)))
 
 pub found_any : {A : Type 0} (p : A → Bool) (f : ℕ → A) (i n : ℕ)
-    → found (last_with (λ k. p (f k)) i n) ≡ any_of p (tabulate f i (n - i))
-unfolding found
+    → is_some (last_with (λ k. p (f k)) i n) ≡ any_of p (tabulate f i (n - i))
 found_any p f i n =
     ⊎_elim
     (λ (l : i < n).
     let q : n ≡ i + (n - i) = omega arith in
-    ap (λ m. found (last_with (λ k. p (f k)) i m)) q
+    ap (λ m. is_some (last_with (λ k. p (f k)) i m)) q
     ∙ found_below (λ k. p (f k)) i (n - i)
     ∙ sym (any_tabulate p f i (n - i)))
     (λ (g : n ≤ i).
-    ap found (last_over (λ k. p (f k)) i g)
+    ap is_some (last_over (λ k. p (f k)) i g)
     ∙ sym (ap (any_of p) (tabulate_none f i n g) ∙ any_of_nil p))
     (below? i n)

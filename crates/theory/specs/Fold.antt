@@ -1,7 +1,6 @@
 -- Shared vocabulary of all crates: tests over the indices below a bound, and lists made from them.
 -- Assumes nothing.
-use Rattle.std.specs.Prelude.{ℕ, zero, suc, ◌+◌, Bool, true, false, cond, List, [], ◌∷◌, leb}
-use Rattle.std.proofs.Math.Option.{Option, none, some}
+use Rattle.std.specs.Prelude.{ℕ, zero, suc, ◌+◌, Bool, true, false, cond, List, [], ◌∷◌, leb, Option, Some, None}
 
 -- conjunction and disjunction of tests; shut, unlike the library's, so that their arguments can be inferred
 unfoldable pub both : Bool → Bool → Bool
@@ -29,13 +28,8 @@ first_not p (suc n) = cond (all_below p n) n (first_not p n)
 
 -- the greatest index from i up to n, n left out, of which p holds, if there is one: W-203's "last line that meets the test's condition"
 unfoldable pub last_with : (ℕ → Bool) → ℕ → ℕ → Option ℕ
-last_with p i zero = none
-last_with p i (suc n) = cond (both (leb i n) (p n)) (some n) (last_with p i n)
-
--- a search has found something
-unfoldable pub found : Option ℕ → Bool
-found none = false
-found (some i) = true
+last_with p i zero = None
+last_with p i (suc n) = cond (both (leb i n) (p n)) (Some n) (last_with p i n)
 
 -- how many indices below n pass a test
 unfoldable pub count : (ℕ → Bool) → ℕ → ℕ

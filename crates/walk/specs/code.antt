@@ -2,3 +2,4 @@
 pub mod Levels
 pub mod Nodes
 pub mod Walks
+pub mod Arenas

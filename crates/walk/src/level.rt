@@ -1,10 +1,8 @@
 // The numbers of one delay, which every function over its nodes takes, and which nodes there are.
-ghost use Rattle.std.specs.Prelude.{◌≡◌, min};
+ghost use Rattle.std.specs.Prelude.{◌≡◌};
 ghost use Rattle.walk.specs.code.Nodes.{is_sized, is_node};
-ghost use Rattle.sheet.specs.code.Steps.{most_power};
 ghost use Rattle.walk.specs.code.Levels.{level_to};
 
-use sheet::form::wide;
 use sheet::limits::{MOST_NODES, MOST_POSITIONS, MOST_POWER, ROW};
 use sheet::size::power;
 
@@ -18,58 +16,40 @@ pub struct Level {
     pub nodes: usize,
 }
 
-// So many, or 65,536 where it is more: then no product wraps.
-fn cut(n: usize) -> usize
-    ensures { result ≡ min n most_power }
-{
-    if MOST_POWER < n {
-        return MOST_POWER;
-    }
-    n
-}
-
-// The numbers of a delay; positions and powers are cut off far above what a sheet has.
+// The numbers of a delay; positions and powers are cut off far above what a sheet has, so that no product wraps.
+#[tactic(auto, unfolding(theory::specs::Delay::odd))]
 pub fn level_at(positions: usize, start: u8, actions: u8, delay: u8) -> Level
     ensures { result ≡ level_to positions start actions delay }
 {
-    let words = power(actions, wide(delay) / 2);
+    let words = power(actions, usize::from(delay) / 2);
     Level {
-        start: wide(start),
-        actions: wide(actions),
+        start: usize::from(start),
+        actions: usize::from(actions),
         words,
         odd: delay % 2 == 1,
-        nodes: cut(positions) * words,
+        nodes: positions.min(MOST_POWER) * words,
     }
 }
 
-// Do the numbers fit each other, and so many positions? The product is formed last, where it cannot wrap.
-pub fn is_sized(positions: usize, level: Level) -> bool
-    ensures { result ≡ is_sized positions level }
-{
-    if MOST_POSITIONS < positions {
-        return false;
+impl Level {
+    // Do the numbers fit each other, and so many positions? The product is formed last, where it cannot wrap.
+    #[tactic(auto, unfolding(crate::specs::code::Nodes::is_sized, theory::specs::Fold::both))]
+    pub fn is_sized(self, positions: usize) -> bool
+        ensures { result ≡ is_sized positions self }
+    {
+        positions <= MOST_POSITIONS
+            && self.actions <= ROW
+            && 1 <= self.words
+            && self.words <= MOST_NODES
+            && self.nodes <= MOST_NODES
+            && self.nodes == positions * self.words
     }
-    if ROW < level.actions {
-        return false;
-    }
-    if level.words < 1 {
-        return false;
-    }
-    if MOST_NODES < level.words {
-        return false;
-    }
-    if MOST_NODES < level.nodes {
-        return false;
-    }
-    level.nodes == positions * level.words
-}
 
-// Is there a node k at so many positions?
-pub fn is_node(positions: usize, level: Level, k: usize) -> bool
-    ensures { result ≡ is_node positions level k }
-{
-    if !is_sized(positions, level) {
-        return false;
+    // Is there a node k at so many positions?
+    #[tactic(auto, unfolding(crate::specs::code::Nodes::is_node, theory::specs::Fold::both))]
+    pub fn is_node(self, positions: usize, k: usize) -> bool
+        ensures { result ≡ is_node positions self k }
+    {
+        self.is_sized(positions) && k < self.nodes
     }
-    k < level.nodes
 }

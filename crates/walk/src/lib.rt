@@ -2,4 +2,5 @@
 #![tactic(auto)]
 
 pub mod level; // the numbers of one delay
+pub mod arena; // what the walk goes over
 pub mod walk; // which actions are spoilt, and whether all are

@@ -1,14 +1,11 @@
 -- What the walk over a node's actions and moves goes through, and when it spoils. Assumes nothing.
-use Rattle.std.specs.Prelude.{ℕ, suc, ◌+◌, ◌*◌, ◌/◌, ◌%◌, ◌<◌, ◌≡◌, Bool, true, false, cond, List, ltb, leb, get_or, length}
-use Rattle.std.proofs.Math.Option.{Option, none, some}
+use Rattle.std.specs.Prelude.{ℕ, suc, ◌+◌, ◌*◌, ◌/◌, ◌%◌, ◌<◌, ◌≡◌, Bool, true, false, cond, List, ltb, leb, get_or, length, Option, Some, None, IfSome}
 use Rattle.theory.specs.Fold.{both, all_below}
 use Rattle.theory.specs.Game.{Target, absent, to}
 use Rattle.theory.specs.Delay.{with_word}
 use Rattle.sheet.specs.Kinds.{safe_at}
 use Rattle.walk.specs.declared.level.Level.{Level}
 use Rattle.walk.specs.declared.walk.Choice.{Choice}
-use Rattle.walk.specs.declared.walk.Found.{Found}
-use Rattle.walk.specs.declared.walk.Found.TheVariants.{At, Nowhere}
 use Rattle.sheet.specs.code.Arrays.{target_at, to_at}
 use Rattle.theory.specs.Rounds.{bad, spoilt_by}
 use Rattle.sheet.specs.code.Steps.{most_power}
@@ -21,23 +18,20 @@ fallen_by n marks k = both (ltb 0 (get_or marks k 0)) (leb (get_or marks k 0) n)
 
 -- action h is played, the word w is pending after it, and the environment moves from q
 abbrev pub moving_from : List ℕ → ℕ → ℕ → ℕ → Choice
-moving_from f h w q = record { blocked = false; action = h; rest = w; first = get_or f q 0; end = get_or f (suc q) 0 }
+moving_from f h w q = record { action = h; rest = w; first = get_or f q 0; end = get_or f (suc q) 0 }
 
-abbrev pub blocked_at : ℕ → ℕ → Choice
-blocked_at h w = record { blocked = true; action = h; rest = w; first = 0; end = 0 }
-
--- even delays: h has this target
-unfoldable pub moves_after : List ℕ → List ℕ → ℕ → ℕ → Target → Choice
-moves_after p f h w absent = blocked_at h w
-moves_after p f h w (to q) = cond (safe_at p q) (moving_from f h w q) (blocked_at h w)
+-- even delays: h has this target; none where it is spoilt before the environment moves
+unfoldable pub moves_after : List ℕ → List ℕ → ℕ → ℕ → Target → Option Choice
+moves_after p f h w absent = None
+moves_after p f h w (to q) = cond (safe_at p q) (Some (moving_from f h w q)) None
 
 -- by parity (true: odd), at position q
-unfoldable pub played_at : Bool → List ℕ → List (List ℕ) → List ℕ → ℕ → ℕ → ℕ → Choice
-played_at true p g f q h w = moving_from f h w q
+unfoldable pub played_at : Bool → List ℕ → List (List ℕ) → List ℕ → ℕ → ℕ → ℕ → Option Choice
+played_at true p g f q h w = Some (moving_from f h w q)
 played_at false p g f q h w = moves_after p f h w (target_at g q h)
 
 -- at position q with the joined word j, whose oldest action is played
-unfoldable pub choice_at : List ℕ → List (List ℕ) → List ℕ → Level → ℕ → ℕ → Choice
+unfoldable pub choice_at : List ℕ → List (List ℕ) → List ℕ → Level → ℕ → ℕ → Option Choice
 choice_at p g f l q j = played_at l.odd p g f q (j / l.words) (j % l.words)
 
 -- the outcome, by parity, of the environment's move to r
@@ -51,17 +45,6 @@ outcome_at p g l x r = outcome_by l.odd p g l.words x.action x.rest r
 -- "the test's condition as it stands" (W-203), on a line: the environment's move there spoils the choice
 unfoldable pub spoils_on : List ℕ → List (List ℕ) → List ℕ → Level → (ℕ → Bool) → Choice → ℕ → Bool
 spoils_on p g u l fallen x line = bad fallen (outcome_at p g l x (to_at u line))
-
--- what a search's answer says: the line, or none
-abbrev pub found_means : Found → Option ℕ
-found_means (At line) = some line
-found_means Nowhere = none
-
--- what choosing action c at position q with the pending word w gives
-pub record Chosen (p : List ℕ) (g : List (List ℕ)) (f : List ℕ) (l : Level) (q w c : ℕ) (x : Choice) : Type 0 where
-  pub choice : x ≡ choice_at p g f l q (w * l.actions + c)
-  pub end_small : x.end < most_power
-  pub rest_word : x.rest < l.words
 
 -- action c is spoilt at node k of the arrays' arena, what has fallen being the nodes marked 1 to n
 abbrev pub spoilt_in : List ℕ → List (List ℕ) → List ℕ → List ℕ → Level → List ℕ → ℕ → ℕ → ℕ → Bool
