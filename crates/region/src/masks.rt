@@ -24,8 +24,17 @@ fn allowed(
     ensures { result
         ≡ allowed_in (arena_of p.now grid.now u.now firsts.now level) n ranks.now k }
 {
-    let arena = Arena { positions: p, grid, moves: u, firsts, level };
-    let fallen = Fallen { marks: ranks, last: n };
+    let arena = Arena {
+        positions: p,
+        grid,
+        moves: u,
+        firsts,
+        level,
+    };
+    let fallen = Fallen {
+        marks: ranks,
+        last: n,
+    };
     let mut mask: usize = 0;
     let mut bit: usize = 1;
     let mut c: usize = 0;

@@ -55,8 +55,20 @@ fn falls_now(
     if !on_right(p, level.odd, k / level.words) {
         return false;
     }
-    let arena = Arena { positions: p, grid, moves: u, firsts, level };
-    arena.all_spoilt(&Fallen { marks: ranks, last: n }, k)
+    let arena = Arena {
+        positions: p,
+        grid,
+        moves: u,
+        firsts,
+        level,
+    };
+    arena.all_spoilt(
+        &Fallen {
+            marks: ranks,
+            last: n,
+        },
+        k,
+    )
 }
 
 // Round n + 1, after n rounds. A node that falls now has rank n + 1, so it does not count as fallen until the next round. Says

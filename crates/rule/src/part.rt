@@ -54,7 +54,13 @@ fn bit_left(
     if left % 2 == 0 {
         return 0;
     }
-    let arena = Arena { positions: p, grid, moves: u, firsts, level };
+    let arena = Arena {
+        positions: p,
+        grid,
+        moves: u,
+        firsts,
+        level,
+    };
     if arena.spoilt(&Fallen { marks, last: 1 }, k, c) {
         return 0;
     }

@@ -63,8 +63,21 @@ fn blocked(
         return false;
     }
     if level.odd {
-        let arena = Arena { positions: p, grid, moves: u, firsts, level };
-        return arena.spoilt(&Fallen { marks: ranks, last: 0 }, b * younger, 0);
+        let arena = Arena {
+            positions: p,
+            grid,
+            moves: u,
+            firsts,
+            level,
+        };
+        return arena.spoilt(
+            &Fallen {
+                marks: ranks,
+                last: 0,
+            },
+            b * younger,
+            0,
+        );
     }
     let t = target(grid, q, b % level.actions);
     if t == ABSENT {
