@@ -1,20 +1,24 @@
 -- Checks 2 to 7, as the code of src/checks.rt, lines.rt and reading.rt finds them. Assumes nothing.
-use Prim.Native.Nat.{ℕ, ◌+◌, ◌-◌, ◌*◌, ◌/◌, ◌%◌, ◌≤◌, ◌<◌, ◌^◌}
+use Prim.Native.Nat.{ℕ, ◌+◌, ◌*◌, ◌/◌, ◌%◌, ◌≤◌, ◌<◌, ◌^◌}
 use mathlib.Core.Path.{◌≡◌, refl, sym, ◌∙◌, ap}
-use mathlib.Core.Bool.{Bool, true, false, not, cond}
+use mathlib.Core.Bool.{Bool, true, false, cond}
 use mathlib.Core.List.{List}
 use native.Mathlib.Omega.{arith}
 use native.Mathlib.Nat.{mul-le-mul_left, mul-lt-mul_of_pos_left, le_of_lt, mul-le-mul_right, zero-mul}
 use native.Mathlib.Numerals.{add-one}
-use lib.Dec.{ltb, leb}
+use lib.Dec.{leb}
 use lib.ListN.{length, get_or, set, replicate}
 use borrow.Author.Rules.{rules}
-use borrow.Author.Tests.{le-leb, lt-leb, lt-ltb, le-ltb, eq-eqb, ne_eqb, leb-false}
+use borrow.Author.Tests.{le-leb, lt-leb, lt-ltb, eq-eqb, ne_eqb, leb-false}
 use Rattle.theory.specs.Fold.{either, all_below, any_below, tabulate}
-use Rattle.theory.proofs.Fold.{both_true, both_false, either_left, either_right, either_first, all_none, all_done, any_suc, both_none, both_second, either_second, failed, passed, all_next}
-use Rattle.theory.proofs.Fold.{all_stopped, get_d_tabulate, tabulate_set, bool, below?}
-use Rattle.sheet.specs.Kinds.{controller_at, environment_at, known_at}
-use Rattle.reader.specs.Checks.{header_ok, key_at, rises_at, target_ok, targets_ok, move_ok, moves_ok, begins_at, has_line, leaves_at, all_leave, positions_ok, size_ok}
+use Rattle.theory.proofs.Fold.{all_same, both_false, either_right, either_first, any_suc, both_none, both_second}
+use Rattle.theory.proofs.Fold.{get_d_tabulate, tabulate_set, bool, below?}
+use Rattle.std.specs.Prelude.{Option, Some, None, is_some}
+use Rattle.std.specs.List.{list_all}
+use Rattle.sheet.specs.Kinds.{kind_of, kind_at, is_known, controller_at, known_at}
+use Rattle.sheet.specs.declared.kinds.Kind.{Kind}
+use Rattle.sheet.proofs.ChainLaws.{all_elements}
+use Rattle.reader.specs.Checks.{header_ok, target_ok, targets_ok, move_ok, moves_ok, begins_at, has_line, leaves_at, all_leave, positions_ok, size_ok}
 use Rattle.sheet.specs.Size.{nodes_of}
 use Rattle.reader.specs.code.Steps.{leaves_by}
 use Rattle.sheet.specs.code.Steps.{power_to, most_power}
@@ -22,6 +26,11 @@ use Rattle.sheet.specs.Limits.{most_positions, most_actions, most_delay, most_mo
 use mathlib.Core.Logic.{⊎_elim}
 
 -- check 2
+
+some_known : (k : Option Kind) → is_some k ≡ is_known k
+unfolding is_known
+some_known (Some kind) = refl
+some_known None = refl
 
 module _ (p : List ℕ) where
   pub no_positions : length p < 1 → false ≡ positions_ok p
@@ -32,21 +41,18 @@ module _ (p : List ℕ) where
   unfolding positions_ok
   many_positions h = sym (both_false _ _ (both_none _ _ (lt-leb (length p) most_positions h)))
 
-  pub unknown_position : (q : ℕ) (r : Bool) → q < length p → r ≡ known_at p q → not r ≡ true → false ≡ positions_ok p
+  known : (q : ℕ) → q < length p → is_some (kind_of (get_or p q 0)) ≡ known_at p q
+  unfolding known_at kind_at
+  known q h = rw (lt-ltb _ _ h) (some_known (kind_of (get_or p q 0)))
+
+  pub positions_all : (r : Bool) → 1 ≤ length p → length p ≤ most_positions → r ≡ list_all (λ b. is_some (kind_of b)) p → r ≡ positions_ok p
   unfolding positions_ok
-  unknown_position q r h e f = sym (both_false _ _ (both_false _ _ (all_stopped (known_at p) q (length p) h e f)))
+  positions_all r l m e =
+      e
+      ∙ all_elements (λ b. is_some (kind_of b)) 0 (known_at p) p known
+      ∙ sym (both_second _ _ (le-leb _ _ l) ∙ both_second _ _ (le-leb _ _ m))
 
-  pub positions_again : (q : ℕ) (r : Bool) → all_below (known_at p) q ≡ true → r ≡ known_at p q → not r ≡ false
-      → all_below (known_at p) (q + 1) ≡ true
-  positions_again q r = all_next (known_at p) q
-
-  pub positions_right : (q : ℕ) → 1 ≤ length p → length p ≤ most_positions → q ≤ length p → length p ≤ q → all_below (known_at p) q ≡ true
-      → true ≡ positions_ok p
-  unfolding positions_ok
-  positions_right q l m g h e =
-      sym (both_true _ _ (le-leb _ _ l) (both_true _ _ (le-leb _ _ m) (all_done (known_at p) g h e)))
-
-pub ruleset positions = (rules, all_none, no_positions, many_positions, unknown_position, positions_again, positions_right)
+pub ruleset positions = (rules, no_positions, many_positions, positions_all)
 
 -- check 3: the passed tests, then the failed one
 
@@ -80,120 +86,19 @@ module _ (p h : List ℕ) where
 
 pub ruleset header = (rules, header_length, no_action, many_actions, long_delay, header_start)
 
--- keys of lines
-
-pub key_is : (b : List ℕ) (i w v : ℕ) → w ≡ get_or b i 0 → v ≡ get_or b (i + 1) 0 → w * 256 + v ≡ key_at b i
-unfolding key_at
-key_is b i w v p q = rw (p, q)
-
-pub earlier : (w k : ℕ) → w * (k - 1) ≤ w * k
-earlier w k = mul-le-mul_left w (omega arith)
-
-pub first_rises : (w : ℕ) (b : List ℕ) (k : ℕ) → k ≡ 0 → true ≡ rises_at w b k
-unfolding rises_at
-first_rises w b k e = sym (either_left _ _ (eq-eqb _ _ e))
-
-pub later_rises : (w : ℕ) (b : List ℕ) (k x y : ℕ) → (k ≡ 0 → ⊥) → x ≡ key_at b (w * (k - 1)) → y ≡ key_at b (w * k)
-    → ltb x y ≡ rises_at w b k
-unfolding rises_at
-later_rises w b k x y e p q = rw (p, q) (sym (either_second _ _ (ne_eqb _ _ e)))
-
-pub ruleset keys = (rules, key_is, first_rises, later_rises)
-
--- check 4; w is a byte as a number
-
-module _ (p : List ℕ) (a : ℕ) (c : List ℕ) (k : ℕ) where
-  pub target_from_lem : (w : ℕ) (r : Bool) → w ≡ get_or c (3 * k) 0 → r ≡ controller_at p w → not r ≡ true → false ≡ target_ok p a c k
-  unfolding target_ok
-  target_from_lem w r e f g = sym (both_none _ _ (ap (controller_at p) (sym e) ∙ failed f g))
-
-  pub target_action : a ≤ get_or c (3 * k + 1) 0 → false ≡ target_ok p a c k
-  unfolding target_ok
-  target_action h = sym (both_false _ _ (both_none _ _ (le-ltb _ _ h)))
-
-  pub target_to : (w : ℕ) (r : Bool) → w ≡ get_or c (3 * k + 2) 0 → r ≡ environment_at p w → not r ≡ true → false ≡ target_ok p a c k
-  unfolding target_ok
-  target_to w r e f g = sym (both_false _ _ (both_false _ _ (both_none _ _ (ap (environment_at p) (sym e) ∙ failed f g))))
-
-  pub target_rises : (w v : ℕ) (x y r : Bool) → w ≡ get_or c (3 * k) 0 → x ≡ controller_at p w → not x ≡ false
-      → get_or c (3 * k + 1) 0 < a → v ≡ get_or c (3 * k + 2) 0 → y ≡ environment_at p v → not y ≡ false → r ≡ rises_at 3 c k
-      → r ≡ target_ok p a c k
-  unfolding target_ok
-  target_rises w v x y r e f g h i j l m =
-      m
-      ∙ sym
-      (both_second _ _ (ap (controller_at p) (sym e) ∙ passed f g)
-      ∙ both_second _ _ (lt-ltb _ _ h)
-      ∙ both_second _ _ (ap (environment_at p) (sym i) ∙ passed j l))
-
-pub ruleset a_target = (rules, target_from_lem, target_action, target_to, target_rises)
+-- check 4
 
 module _ (p : List ℕ) (a : ℕ) (c : List ℕ) where
-  pub targets_over : (length c % 3 ≡ 0 → ⊥) → false ≡ targets_ok p a c
+  pub targets_all : {r : Bool} → length c % 3 ≡ 0 → r ≡ all_below (target_ok p a c) (length c / 3) → r ≡ targets_ok p a c
   unfolding targets_ok
-  targets_over e = sym (both_none _ _ (ne_eqb _ _ e))
-
-  pub targets_bad : (k : ℕ) (r : Bool) → k < length c / 3 → r ≡ target_ok p a c k → not r ≡ true → false ≡ targets_ok p a c
-  unfolding targets_ok
-  targets_bad k r h e f = sym (both_false _ _ (all_stopped (target_ok p a c) k (length c / 3) h e f))
-
-  pub targets_again : (k : ℕ) (r : Bool) → all_below (target_ok p a c) k ≡ true → r ≡ target_ok p a c k → not r ≡ false
-      → all_below (target_ok p a c) (k + 1) ≡ true
-  targets_again k r = all_next (target_ok p a c) k
-
-  pub targets_right : (k : ℕ) → length c % 3 ≡ 0 → k ≤ length c / 3 → length c / 3 ≤ k → all_below (target_ok p a c) k ≡ true
-      → true ≡ targets_ok p a c
-  unfolding targets_ok
-  targets_right k e l g t = sym (both_true _ _ (eq-eqb _ _ e) (all_done (target_ok p a c) l g t))
-
-pub ruleset targets = (rules, all_none, targets_over, targets_bad, targets_again, targets_right)
+  targets_all e f = f ∙ sym (both_second _ _ (eq-eqb _ _ e))
 
 -- check 5
 
-module _ (p u : List ℕ) (k : ℕ) where
-  pub move_from : (w : ℕ) (r : Bool) → w ≡ get_or u (2 * k) 0 → r ≡ environment_at p w → not r ≡ true → false ≡ move_ok p u k
-  unfolding move_ok
-  move_from w r e f g = sym (both_none _ _ (ap (environment_at p) (sym e) ∙ failed f g))
-
-  pub move_to : (w : ℕ) (r : Bool) → w ≡ get_or u (2 * k + 1) 0 → r ≡ controller_at p w → not r ≡ true → false ≡ move_ok p u k
-  unfolding move_ok
-  move_to w r e f g = sym (both_false _ _ (both_none _ _ (ap (controller_at p) (sym e) ∙ failed f g)))
-
-  pub move_rises : (w v : ℕ) (x y r : Bool) → w ≡ get_or u (2 * k) 0 → x ≡ environment_at p w → not x ≡ false
-      → v ≡ get_or u (2 * k + 1) 0 → y ≡ controller_at p v → not y ≡ false → r ≡ rises_at 2 u k → r ≡ move_ok p u k
-  unfolding move_ok
-  move_rises w v x y r e f g i j l m =
-      m
-      ∙ sym
-      (both_second _ _ (ap (environment_at p) (sym e) ∙ passed f g)
-      ∙ both_second _ _ (ap (controller_at p) (sym i) ∙ passed j l))
-
-pub ruleset a_move = (rules, move_from, move_to, move_rises)
-
 module _ (p u : List ℕ) where
-  pub moves_over : (length u % 2 ≡ 0 → ⊥) → false ≡ moves_ok p u
+  pub moves_all : {r : Bool} → length u % 2 ≡ 0 → length u / 2 ≤ most_moves → r ≡ all_below (move_ok p u) (length u / 2) → r ≡ moves_ok p u
   unfolding moves_ok
-  moves_over e = sym (both_none _ _ (ne_eqb _ _ e))
-
-  pub moves_many : most_moves < length u / 2 → false ≡ moves_ok p u
-  unfolding moves_ok
-  moves_many h = sym (both_false _ _ (both_none _ _ (lt-leb _ _ h)))
-
-  pub moves_bad : (k : ℕ) (r : Bool) → k < length u / 2 → r ≡ move_ok p u k → not r ≡ true → false ≡ moves_ok p u
-  unfolding moves_ok
-  moves_bad k r h e f = sym (both_false _ _ (both_false _ _ (all_stopped (move_ok p u) k (length u / 2) h e f)))
-
-  pub moves_again : (k : ℕ) (r : Bool) → all_below (move_ok p u) k ≡ true → r ≡ move_ok p u k → not r ≡ false
-      → all_below (move_ok p u) (k + 1) ≡ true
-  moves_again k r = all_next (move_ok p u) k
-
-  pub moves_right : (k : ℕ) → length u % 2 ≡ 0 → length u / 2 ≤ most_moves → k ≤ length u / 2 → length u / 2 ≤ k
-      → all_below (move_ok p u) k ≡ true → true ≡ moves_ok p u
-  unfolding moves_ok
-  moves_right k e m l g t =
-      sym (both_true _ _ (eq-eqb _ _ e) (both_true _ _ (le-leb _ _ m) (all_done (move_ok p u) l g t)))
-
-pub ruleset moves = (rules, all_none, moves_over, moves_many, moves_bad, moves_again, moves_right)
+  moves_all e m f = f ∙ sym (both_second _ _ (eq-eqb _ _ e) ∙ both_second _ _ (le-leb _ _ m))
 
 -- check 6
 
@@ -231,43 +136,23 @@ module _ (w : ℕ) (b : List ℕ) where
 
 pub ruleset beginning = (rules, begun_none, begun_more, begun_done)
 
--- position q, by the passes over both bodies
-
-module _ (p : List ℕ) (t m : List Bool) (q : ℕ) where
-  pub leaves_own : (x r : Bool) → x ≡ controller_at p q → x ≡ true → r ≡ get_or t q false → r ≡ leaves_by p t m q
-  unfolding leaves_by
-  leaves_own x r e f g = rw (sym e ∙ f) g
-
-  pub leaves_other : (x r : Bool) → x ≡ controller_at p q → x ≡ false → r ≡ get_or m q false → r ≡ leaves_by p t m q
-  unfolding leaves_by
-  leaves_other x r e f g = rw (sym e ∙ f) g
-
-pub ruleset a_leaving = (rules, leaves_own, leaves_other)
+-- the positions that leave, by the passes over both bodies
 
 module _ (p c u : List ℕ) where
-  pub leaves_is : (q : ℕ) {r : Bool} {t m : List Bool} → q < length p → length p ≤ most_positions
+  leaves_is : (q : ℕ) {t m : List Bool} → q < length p → length p ≤ most_positions
       → t ≡ tabulate (has_line 3 c (length c / 3)) 0 most_positions → m ≡ tabulate (has_line 2 u (length u / 2)) 0 most_positions
-      → r ≡ leaves_by p t m q → r ≡ leaves_at p c u q
+      → leaves_by p t m q ≡ leaves_at p c u q
   unfolding leaves_at leaves_by
-  leaves_is q {r} {t} {m} h l e f g =
+  leaves_is q {t} {m} h l e f =
       let n : q < most_positions = omega arith in
       let a : get_or t q false ≡ has_line 3 c (length c / 3) q = ap (λ (x : List Bool). get_or x q false) e ∙ get_d_tabulate _ most_positions q false n in
       let b : get_or m q false ≡ has_line 2 u (length u / 2) q = ap (λ (x : List Bool). get_or x q false) f ∙ get_d_tabulate _ most_positions q false n in
-      rw (a, b) at g
+      rw (a, b)
 
-  pub stuck_at : (q : ℕ) (r : Bool) → q < length p → r ≡ leaves_at p c u q → not r ≡ true → false ≡ all_leave p c u
+  pub leave_all : {r : Bool} {t m : List Bool} → length p ≤ most_positions → t ≡ tabulate (has_line 3 c (length c / 3)) 0 most_positions
+      → m ≡ tabulate (has_line 2 u (length u / 2)) 0 most_positions → r ≡ all_below (leaves_by p t m) (length p) → r ≡ all_leave p c u
   unfolding all_leave
-  stuck_at q r h e f = sym (all_stopped (leaves_at p c u) q (length p) h e f)
-
-  pub leave_again : (q : ℕ) (r : Bool) → all_below (leaves_at p c u) q ≡ true → r ≡ leaves_at p c u q → not r ≡ false
-      → all_below (leaves_at p c u) (q + 1) ≡ true
-  leave_again q r = all_next (leaves_at p c u) q
-
-  pub leave_all : (q : ℕ) → q ≤ length p → length p ≤ q → all_below (leaves_at p c u) q ≡ true → true ≡ all_leave p c u
-  unfolding all_leave
-  leave_all q l g t = sym (all_done (leaves_at p c u) l g t)
-
-pub ruleset leaving = (rules, all_none, leaves_is, stuck_at, leave_again, leave_all)
+  leave_all {r} {t} {m} l e f g = g ∙ all_same (leaves_by p t m) (leaves_at p c u) (length p) (λ q h. leaves_is q h l e f)
 
 -- check 7
 

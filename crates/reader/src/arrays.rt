@@ -8,9 +8,9 @@ use sheet::form::part;
 use sheet::limits::{ROW, ROWS};
 
 // The grid of targets, which every operation that walks a game reads: completed where the gates hold.
+#[tactic(auto, unfolding(crate::specs::code::Laid::grid_at))]
 pub fn grid_at(sheet: &[u8], l: Layout) -> [[u16; ROW]; ROWS]
     ensures { result ≡ grid_at sheet.now l }
 {
-    let targets = l.targets;
-    grid_for(part(sheet, targets), usize::from(l.actions), l.holding)
+    grid_for(part(sheet, l.targets), usize::from(l.actions), l.holding)
 }

@@ -6,55 +6,40 @@ ghost use Rattle.sheet.specs.Form.{contents_ok};
 ghost use Rattle.sheet.specs.Bodies.{letters_of};
 
 use gates::kind::is_gated;
-use sheet::form::{body, byte, contents_ok};
-use sheet::kinds::known_at;
+use sheet::form::{body, contents_ok};
+use sheet::kinds::kind_of;
 use sheet::limits::{MOST_NODES, MOST_POSITIONS};
 use sheet::size::nodes_at;
 
 // Check 1, by the letters of the sheet's kind.
+#[tactic(auto, unfolding(sheet::specs::Bodies::letters_of))]
 pub(crate) fn letters_ok(s: &[u8]) -> bool
     ensures { result ≡ contents_ok width (letters_of s.now) s.now }
 {
     if is_gated(s) {
-        return contents_ok(s, b"SPCUG");
+        contents_ok(s, b"SPCUG")
+    } else {
+        contents_ok(s, b"SPCU")
     }
-    contents_ok(s, b"SPCU")
 }
 
 // Check 2.
 pub(crate) fn positions_ok(p: &[u8]) -> bool
     ensures { result ≡ positions_ok p.now }
 {
-    let n = p.len();
-    if n < 1 {
-        return false;
-    }
-    if MOST_POSITIONS < n {
-        return false;
-    }
-    for q in 0..n {
-        if !known_at(p, q) {
-            return false;
-        }
-    }
-    true
+    (1..=MOST_POSITIONS).contains(&p.len()) && p.iter().all(|&b| kind_of(b).is_some())
 }
 
 // Check 24.
+#[tactic(auto, unfolding(crate::specs::Checks::gates_ok, theory::specs::Fold::both, theory::specs::Fold::either))]
 pub(crate) fn gates_ok(s: &[u8]) -> bool
     ensures { result ≡ gates_ok s.now }
 {
-    if !is_gated(s) {
-        return true;
-    }
-    let g = body(s, 4);
-    if g.len() != 1 {
-        return false;
-    }
-    byte(g, 0) <= 1
+    !is_gated(s) || matches!(body(s, 4), [0..=1])
 }
 
 // Check 7.
+#[tactic(auto, using(crate::proofs::CheckLaws::size_is))]
 pub(crate) fn size_ok(p: &[u8], actions: u8, delay: u8) -> bool
     requires { length p.now ≤ most_positions }
     ensures { result ≡ size_ok p.now actions delay }

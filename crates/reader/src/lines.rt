@@ -9,93 +9,60 @@ use sheet::kinds::{controller_at, environment_at};
 use sheet::limits::{MOST_MOVES, ROWS};
 
 // The first two bytes of a line as one number, by which lines are ordered.
-fn key(b: &[u8], i: usize) -> usize
+#[tactic(auto, unfolding(crate::specs::Checks::key_at))]
+fn key(b: &[u8], i: usize) -> u16
     requires { i + 1 < length b.now }
     ensures { result ≡ key_at b.now i }
 {
-    usize::from(b[i]) * 256 + usize::from(b[i + 1])
+    u16::from_be_bytes([b[i], b[i + 1]])
 }
 
 // Has line k a larger key than the one before it?
+#[tactic(auto, unfolding(crate::specs::Checks::rises_at, theory::specs::Fold::either))]
 fn rises(width: usize, b: &[u8], k: usize) -> bool
     requires { width * k + 1 < length b.now }
     ensures { result ≡ rises_at width b.now k }
 {
-    if k == 0 {
-        return true;
-    }
-    let before = key(b, width * (k - 1));
-    let here = key(b, width * k);
-    before < here
+    k == 0 || key(b, width * (k - 1)) < key(b, width * k)
 }
 
 // Is line k of the C body right?
+#[tactic(auto, unfolding(crate::specs::Checks::target_ok, theory::specs::Fold::both))]
 fn target_ok(p: &[u8], actions: u8, c: &[u8], k: usize) -> bool
     requires { 3 * k + 2 < length c.now }
     ensures { result ≡ target_ok p.now actions c.now k }
 {
-    if !controller_at(p, usize::from(c[3 * k])) {
-        return false;
-    }
-    let action = c[3 * k + 1];
-    if actions <= action {
-        return false;
-    }
-    if !environment_at(p, usize::from(c[3 * k + 2])) {
-        return false;
-    }
-    rises(3, c, k)
+    controller_at(p, usize::from(c[3 * k]))
+        && c[3 * k + 1] < actions
+        && environment_at(p, usize::from(c[3 * k + 2]))
+        && rises(3, c, k)
 }
 
 // Check 4.
+#[tactic(auto, unfolding(crate::specs::Checks::targets_ok, theory::specs::Fold::both))]
 pub(crate) fn targets_ok(p: &[u8], actions: u8, c: &[u8]) -> bool
     ensures { result ≡ targets_ok p.now actions c.now }
 {
-    let n = c.len() / 3;
-    let over = c.len() % 3;
-    if over != 0 {
-        return false;
-    }
-    for k in 0..n {
-        if !target_ok(p, actions, c, k) {
-            return false;
-        }
-    }
-    true
+    c.len() % 3 == 0 && (0..c.len() / 3).all(|k| target_ok(p, actions, c, k))
 }
 
 // Is line k of the U body right?
+#[tactic(auto, unfolding(crate::specs::Checks::move_ok, theory::specs::Fold::both))]
 fn move_ok(p: &[u8], u: &[u8], k: usize) -> bool
     requires { 2 * k + 1 < length u.now }
     ensures { result ≡ move_ok p.now u.now k }
 {
-    if !environment_at(p, usize::from(u[2 * k])) {
-        return false;
-    }
-    if !controller_at(p, usize::from(u[2 * k + 1])) {
-        return false;
-    }
-    rises(2, u, k)
+    environment_at(p, usize::from(u[2 * k]))
+        && controller_at(p, usize::from(u[2 * k + 1]))
+        && rises(2, u, k)
 }
 
 // Check 5.
+#[tactic(auto, unfolding(crate::specs::Checks::moves_ok, theory::specs::Fold::both))]
 pub(crate) fn moves_ok(p: &[u8], u: &[u8]) -> bool
     ensures { result ≡ moves_ok p.now u.now }
 {
-    let n = u.len() / 2;
-    let over = u.len() % 2;
-    if over != 0 {
-        return false;
-    }
-    if MOST_MOVES < n {
-        return false;
-    }
-    for k in 0..n {
-        if !move_ok(p, u, k) {
-            return false;
-        }
-    }
-    true
+    u.len() % 2 == 0 && u.len() / 2 <= MOST_MOVES && (0..u.len() / 2).all(|k| move_ok(p, u, k))
 }
 
 // For each position that there can be: does one of the first n lines begin with it? One pass over the lines.
@@ -112,14 +79,16 @@ fn begun(width: usize, b: &[u8], n: usize) -> [bool; ROWS]
 }
 
 // Has position q a move of its own kind, with where the C and U lines begin?
+#[tactic(auto, unfolding(crate::specs::code::Steps::leaves_by))]
 fn leaves_at(p: &[u8], targets: &[bool; ROWS], moves: &[bool; ROWS], q: usize) -> bool
     requires { q < most_positions }
     ensures { result ≡ leaves_by p.now targets.now moves.now q }
 {
     if controller_at(p, q) {
-        return targets[q];
+        targets[q]
+    } else {
+        moves[q]
     }
-    moves[q]
 }
 
 // Check 6.
@@ -129,10 +98,5 @@ pub(crate) fn all_leave(p: &[u8], c: &[u8], u: &[u8]) -> bool
 {
     let targets = begun(3, c, c.len() / 3);
     let moves = begun(2, u, u.len() / 2);
-    for q in 0..p.len() {
-        if !leaves_at(p, &targets, &moves, q) {
-            return false;
-        }
-    }
-    true
+    (0..p.len()).all(|q| leaves_at(p, &targets, &moves, q))
 }

@@ -30,51 +30,35 @@ pub struct Layout {
 }
 
 // Check 3.
+#[tactic(auto, unfolding(crate::specs::Checks::header_ok, theory::specs::Fold::both))]
 fn header_ok(p: &[u8], h: &[u8]) -> bool
     ensures { result ≡ header_ok p.now h.now }
 {
-    if h.len() != 3 {
+    let &[start, actions, delay] = h else {
         return false;
-    }
-    let actions = h[1];
-    if actions < 1 {
-        return false;
-    }
-    if MOST_ACTIONS < actions {
-        return false;
-    }
-    let delay = h[2];
-    if MOST_DELAY < delay {
-        return false;
-    }
-    controller_at(p, usize::from(h[0]))
+    };
+    (1..=MOST_ACTIONS).contains(&actions)
+        && delay <= MOST_DELAY
+        && controller_at(p, usize::from(start))
 }
 
 // The layout of a sheet that passes checks 1 to 6 and 24.
+#[tactic(auto, unfolding(crate::specs::Reading::layout_of, sheet::specs::Bodies::start_of, sheet::specs::Bodies::action_count, sheet::specs::Bodies::delay_of))]
 fn layout_at(s: &[u8]) -> Layout
     requires { Checked s.now }
     ensures { result ≡ layout_of s.now }
 {
     let h = body(s, 0);
-    let start = byte(h, 0);
-    let actions = byte(h, 1);
-    let delay = byte(h, 2);
-    let header = placed(s, 0);
-    let positions = placed(s, 1);
-    let targets = placed(s, 2);
-    let moves = placed(s, 3);
-    let reached = reach(s);
-    let holding = is_holding(s);
     Layout {
-        start,
-        actions,
-        delay,
-        header,
-        positions,
-        targets,
-        moves,
-        reached,
-        holding,
+        start: byte(h, 0),
+        actions: byte(h, 1),
+        delay: byte(h, 2),
+        header: placed(s, 0),
+        positions: placed(s, 1),
+        targets: placed(s, 2),
+        moves: placed(s, 3),
+        reached: reach(s),
+        holding: is_holding(s),
     }
 }
 

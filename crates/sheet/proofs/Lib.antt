@@ -1,4 +1,5 @@
 -- Laws of the definitions of specs/, on which the proofs of the functions rest.
+pub mod ChainLaws
 pub mod FormLaws
 pub mod SizeLaws
 pub mod GridLaws

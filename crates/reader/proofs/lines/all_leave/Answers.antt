@@ -1,16 +1,11 @@
--- `reader::lines::all_leave` meets its contract, by the laws of proofs/CheckLaws.antt. The loop has passed q positions that have a move.
--- Assumes nothing.
-use Rattle.reader.proofs.CheckLaws.{leaving}
+-- `all_leave` meets its contract. Assumes nothing.
+use Rattle.std.proofs.Common.{rules, tests, length, refl}
+use Rattle.reader.specs.code.Steps.{leaves_by}
+use Rattle.sheet.proofs.ChainLaws.{all_indices}
+use Rattle.reader.proofs.CheckLaws.{leave_all}
 use Rattle.reader.proofs.lines.all_leave.Goals as goal
 
-pub loop-q-init : goal.loop-q-init
-loop-q-init c = search leaving
-
-pub returns-then-not-leaves_at : goal.returns-then-not-leaves_at
-returns-then-not-leaves_at c = search leaving
-
-pub loop-q-preserved : goal.loop-q-preserved
-loop-q-preserved c = search leaving
-
 pub returns : goal.returns
-returns c = search leaving
+returns c =
+    leave_all _ _ _ c.requires c.begun-targets.ensures c.begun-moves.ensures
+    (all_indices (leaves_by c.args.p.now c.begun-targets.result c.begun-moves.result) (length c.args.p.now) refl c.all.ensures.ran (λ x b q k. search (rules, tests)))

@@ -1,0 +1,106 @@
+-- What a chain of iterators asks of each element or index, in the project's own words (theory/specs/Fold.antt): p is the test by index.
+-- Assumes nothing.
+use Prim.Native.Nat.{ℕ, suc, ◌+◌, ◌<◌}
+use mathlib.Core.Path.{◌≡◌, refl, sym, ◌∙◌, ap}
+use mathlib.Core.Bool.{Bool, true, false}
+use mathlib.Core.List.{List, [], ◌∷◌}
+use mathlib.Core.Logic.{⊎_elim}
+use native.Mathlib.Omega.{arith}
+use denote.Param.Members.{Mut}
+use denote.Ref.{Bor}
+use lib.ListN.{length, get_or}
+use Rattle.std.proofs.Common.{Option, Iter}
+use Rattle.std.specs.declared.ops.Range.{Range}
+use Rattle.std.specs.Slice.Iter.{iter_rest}
+use Rattle.std.specs.Fn.{Called}
+use Rattle.std.specs.Iterator.{YieldsThen}
+use Rattle.std.specs.List.{FoldsTo, list_all, list_any, range_with_len}
+use Rattle.std.specs.Option.{MatchOption}
+use Rattle.std.proofs.iter.Yields.{fronts, nat_range_steps}
+use Rattle.std.proofs.lemmas.Iterator.{YieldsList-from_range, YieldsList-from_slice}
+use Rattle.std.proofs.lemmas.Iterator.Search.{all_from_yields_List, any_from_yields_List}
+use Rattle.std.proofs.lemmas.List.Folds.{list_all_at, list_any_at}
+use Rattle.std.proofs.lemmas.List.FromFn.{length-range_with_len, get_or-range_with_len}
+use Rattle.theory.specs.Fold.{all_below, any_below}
+use Rattle.theory.proofs.Fold.{bool, not_both, same_test, all_at, all_below_lem, any_some, any_below_none}
+
+module _ {A : Type 0} (test : A → Bool) (d : A) where
+  all_pass : (xs : List A) → ((k : ℕ) → k < length xs → test (get_or xs k d) ≡ true) → list_all test xs ≡ true
+  all_pass [] h = refl
+  all_pass (x ∷ xs) h = rw (h 0 (omega arith)) (all_pass xs (λ k l. h (suc k) (omega arith)))
+
+  passes : (xs : List A) → list_all test xs ≡ true → (k : ℕ) → k < length xs → test (get_or xs k d) ≡ true
+  passes xs e k l =
+      ⊎_elim (λ t. t) (λ (f : test (get_or xs k d) ≡ false). absurd (not_both e (list_all_at test xs k d l f))) (bool (test (get_or xs k d)))
+
+  none_pass : (xs : List A) → ((k : ℕ) → k < length xs → test (get_or xs k d) ≡ false) → list_any test xs ≡ false
+  none_pass [] h = refl
+  none_pass (x ∷ xs) h = rw (h 0 (omega arith)) (none_pass xs (λ k l. h (suc k) (omega arith)))
+
+  module _ (p : ℕ → Bool) (xs : List A) (same : (k : ℕ) → k < length xs → test (get_or xs k d) ≡ p k) where
+    pub all_elements : list_all test xs ≡ all_below p (length xs)
+    all_elements =
+        same_test _ _
+        (λ t. all_below_lem p (length xs) (λ k l. sym (same k l) ∙ passes xs t k l))
+        (λ t. all_pass xs (λ k l. same k l ∙ all_at p (length xs) t k l))
+
+    pub any_elements : list_any test xs ≡ any_below p (length xs)
+    any_elements =
+        same_test _ _
+        (λ t.
+        ⊎_elim
+        (λ y. y)
+        (λ (n : any_below p (length xs) ≡ false). absurd (not_both t (none_pass xs (λ k l. same k l ∙ any_below_none p (length xs) n k l))))
+        (bool (any_below p (length xs))))
+        (λ t. let i = any_some p (length xs) t in list_any_at test xs i.0 d i.1 (same i.0 i.1 ∙ i.2))
+
+-- the same of the indices below n
+
+in_range : (n k : ℕ) → k < n → get_or (range_with_len 0 n) k 0 ≡ k
+in_range n k l = let e : 0 + k ≡ k = omega arith in get_or-range_with_len 0 n k 0 l ∙ e
+
+module _ (p : ℕ → Bool) (n : ℕ) where
+  same_index : (k : ℕ) → k < length (range_with_len 0 n) → p (get_or (range_with_len 0 n) k 0) ≡ p k
+  same_index k l = ap p (in_range n k (rw (length-range_with_len 0 n) at l))
+
+  all_range : list_all p (range_with_len 0 n) ≡ all_below p n
+  all_range = all_elements p 0 p (range_with_len 0 n) same_index ∙ ap (all_below p) (length-range_with_len 0 n)
+
+  any_range : list_any p (range_with_len 0 n) ≡ any_below p n
+  any_range = any_elements p 0 p (range_with_len 0 n) same_index ∙ ap (any_below p) (length-range_with_len 0 n)
+
+-- what `all` and `any` answer: by their clause `ran`, where the chain begins, and what each call of the closure answers
+
+abbrev pub AllRan : {S A F : Type 0} → (S → Option A → S → Type 0) → Mut F (A × Unit {0}) Bool → S → S → F → Bool → Type 0
+AllRan {S} {A} {F} steps g s u f r =
+    (xs : List A) × (o : Option A) × (j : F) × YieldsThen steps s xs o u × FoldsTo (λ p x q. Called g p (x, tt) true q) f xs j
+    × MatchOption o (r ≡ true) (λ x. (r ≡ false) × ((h : F) × Called g j (x, tt) false h))
+
+abbrev pub AnyRan : {S A F : Type 0} → (S → Option A → S → Type 0) → Mut F (A × Unit {0}) Bool → S → S → F → Bool → Type 0
+AnyRan {S} {A} {F} steps g s u f r =
+    (xs : List A) × (o : Option A) × (j : F) × YieldsThen steps s xs o u × FoldsTo (λ p x q. Called g p (x, tt) false q) f xs j
+    × MatchOption o (r ≡ false) (λ x. (r ≡ true) × ((h : F) × Called g j (x, tt) true h))
+
+module _ {F : Type 0} {g : Mut F (ℕ × Unit {0}) Bool} {s u : Range ℕ} {f : F} {r : Bool} (p : ℕ → Bool) (n : ℕ)
+    (begins : s ≡ record { start = 0; end = n }) where
+  pub all_indices : AllRan nat_range_steps g s u f r → ((x : ℕ) (b : Bool) (q : F) → Called g f (x, tt) b q → (q ≡ f) × (b ≡ p x))
+      → r ≡ all_below p n
+  all_indices ran said =
+      all_from_yields_List p u f r ran (YieldsList-from_range 0 n n begins (omega arith)) said ∙ all_range p n
+
+  pub any_indices : AnyRan nat_range_steps g s u f r → ((x : ℕ) (b : Bool) (q : F) → Called g f (x, tt) b q → (q ≡ f) × (b ≡ p x))
+      → r ≡ any_below p n
+  any_indices ran said =
+      any_from_yields_List p u f r ran (YieldsList-from_range 0 n n begins (omega arith)) said ∙ any_range p n
+
+module _ {A F : Type 0} {g : Mut F (Bor A × Unit {0}) Bool} {s u : Iter A} {f : F} {r : Bool} (test : A → Bool) (p : ℕ → Bool) (d : A)
+    (xs : List A) (begins : iter_rest s ≡ xs) (same : (k : ℕ) → k < length xs → test (get_or xs k d) ≡ p k) where
+  pub all_slice : AllRan fronts g s u f r → ((x : Bor A) (b : Bool) (q : F) → Called g f (x, tt) b q → (q ≡ f) × (b ≡ test x.now))
+      → r ≡ all_below p (length xs)
+  all_slice ran said =
+      all_from_yields_List test u f r ran (YieldsList-from_slice xs begins) said ∙ all_elements test d p xs same
+
+  pub any_slice : AnyRan fronts g s u f r → ((x : Bor A) (b : Bool) (q : F) → Called g f (x, tt) b q → (q ≡ f) × (b ≡ test x.now))
+      → r ≡ any_below p (length xs)
+  any_slice ran said =
+      any_from_yields_List test u f r ran (YieldsList-from_slice xs begins) said ∙ any_elements test d p xs same
