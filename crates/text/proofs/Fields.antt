@@ -6,6 +6,7 @@ use mathlib.Core.Bool.{Bool, true, false, cond}
 use mathlib.Core.Logic.{⊎_elim}
 use mathlib.Core.List.{List, [], ◌∷◌, ◌++◌}
 use native.Mathlib.Omega.{arith}
+use native.Mathlib.Numerals.{add-one}
 use native.Mathlib.Nat.{pow-suc, pow-zero, pow-succ', one-le-pow, mul-zero, mul-pos, mul_assoc}
 use native.Mathlib.Nat.{div-one, div-zero, div-add-mod', div-lt_iff_lt-mul, div-div-eq-div-mul, mul-add-div_right}
 use native.Mathlib.Nat.{mod-zero, zero-mod, mod-lt, mod-eq_of_lt, mod-mod_of_dvd, mul-add-mod_self_right, dvd-mul_left}
@@ -20,36 +21,15 @@ use Rattle.text.specs.Ascii.{ascii}
 use Rattle.text.specs.Page.{Page, puts, texts_from}
 use Rattle.text.specs.Numbers.{glyph, decimal_of}
 use Rattle.text.specs.Fields.{digit_text, word_text, action_text, set_text, field_text, position_text, node_text}
-use Rattle.text.proofs.Page.{after, puts_nil, texts_same, length_texts}
-use Rattle.text.proofs.Numbers.{length_decimal}
+use Rattle.text.proofs.Page.{writing, texts_same, length_texts}
+use Rattle.text.proofs.Numbers.{decimal_one, decimal_more, length_decimal}
 
--- division by a base that may be 0
+-- one digit less
+pub divided_again : (n base k : ℕ) → n / base ^ (k + 1) ≡ n / base ^ k / base
+divided_again n base k = ap (λ j. n / base ^ j) (add-one k) ∙ ap (λ j. n / j) (pow-suc base k) ∙ sym (div-div-eq-div-mul n (base ^ k) base)
 
-pub quotient_none : (n base : ℕ) → base ≡ 0 → 0 ≡ n / base
-quotient_none n base e = rw e (sym (div-zero n))
-
-pub remainder_none : (n base : ℕ) → base ≡ 0 → n ≡ n % base
-remainder_none n base e = rw e (sym (mod-zero n))
-
--- the loop that divides again and again
-
-pub last_start : (n base count : ℕ) → n / base ^ count ≡ n / base ^ (count - 0)
-last_start n base count = let e : count ≡ count - 0 = omega arith in ap (λ m. n / base ^ m) e
-
-pub last_again : (base count k : ℕ) (rest : ℕ) {n next : ℕ} → k < count
-    → n ≡ rest / base ^ (count - k) → next ≡ rest / base → n ≡ next / base ^ (count - (k + 1))
-last_again base count k rest h e g =
-    let m : count - k ≡ suc (count - (k + 1)) = omega arith in
-    e
-    ∙ ap (λ j. rest / base ^ j) m
-    ∙ ap (λ j. rest / j) (pow-succ' base (count - (k + 1)))
-    ∙ sym (div-div-eq-div-mul rest base (base ^ (count - (k + 1))))
-    ∙ ap (λ j. j / base ^ (count - (k + 1))) (sym g)
-
-pub last_done : (base count k : ℕ) {n rest : ℕ} → count ≤ k → n ≡ rest / base ^ (count - k) → rest ≡ n
-last_done base count k {n} {rest} h e =
-    let m : count - k ≡ 0 = omega arith in
-    sym (e ∙ ap (λ j. rest / base ^ j) m ∙ ap (λ j. rest / j) (pow-zero base) ∙ div-one rest)
+pub divided_none : (n base : ℕ) → n / base ^ 0 ≡ n
+divided_none n base = ap (λ j. n / j) (pow-zero base) ∙ div-one n
 
 -- digits of words
 
@@ -137,55 +117,7 @@ unfolding word_text
 word_last a l v = ap (cond (eqb l 0) (ascii "-")) (texts_same _ _ 0 l (λ i. digit_last a l v i))
 
 -- as the code asks them
-
-pub digit_text_lem : (a l v i : ℕ) (p : Page) {s d : ℕ} {q : Page} → i < l → s ≡ v / a ^ (l - 1 - i) → d ≡ s % a
-    → q ≡ puts p (glyph d ∷ []) → q ≡ puts p (digit_text a l v i)
-unfolding digit_text
-digit_text_lem a l v i p h e f g = g ∙ ap (λ d. puts p (glyph d ∷ [])) (f ∙ ap (λ s. s % a) e ∙ sym (digit_is a l v i h))
-
-pub word_empty : (a l v : ℕ) (p : Page) {q : Page} → l ≡ 0 → q ≡ puts p (ascii "-") → q ≡ puts p (word_text a l v)
-unfolding word_text
-word_empty a l v p e g = simp (eq-eqb l 0 e) g
-
-pub word_digits : (a l v : ℕ) (p : Page) {q : Page} → (l ≡ 0 → ⊥) → q ≡ puts p (texts_from (digit_text a l v) 0 l)
-    → q ≡ puts p (word_text a l v)
-unfolding word_text
-word_digits a l v p h g = simp (ne_eqb l 0 h) g
-
-pub bit_is : (m c : ℕ) {s : ℕ} → s ≡ m / 2 ^ c → eqb (s % 2) 1 ≡ bit m c
-unfolding bit
-bit_is m c e = ap (λ s. eqb (s % 2) 1) e
-
-pub action_in : (m c : ℕ) (p : Page) {b : Bool} {q : Page} → b ≡ bit m c → b ≡ true → q ≡ puts p (glyph c ∷ [])
-    → q ≡ puts p (action_text m c)
-unfolding action_text
-action_in m c p e t g = simp (sym e ∙ t) g
-
-pub action_out : (m c : ℕ) (p : Page) {b : Bool} → b ≡ bit m c → b ≡ false → p ≡ puts p (action_text m c)
-unfolding action_text
-action_out m c p e f = simp (sym e ∙ f) (sym (puts_nil p))
-
-pub field_is : (name : List ℕ) (n : ℕ) (p : Page) {q r : Page} → q ≡ puts p name → r ≡ puts q (decimal_of n) → r ≡ puts p (field_text name n)
-unfolding field_text
-field_is name n p e f = after p name (decimal_of n) e f
-
-pub position_is : (a l k : ℕ) (p : Page) {n : ℕ} {q r : Page} → n ≡ k / a ^ l → q ≡ puts p (field_text (ascii "pair ") n)
-    → r ≡ puts q (ascii " ") → r ≡ puts p (position_text a l k)
-unfolding position_text
-position_is a l k p {n} h e f =
-    after p (field_text (ascii "pair ") n) (ascii " ") e f ∙ ap (λ x. puts p (field_text (ascii "pair ") x ++ (ascii " "))) h
-
-pub node_is : (a l k : ℕ) (p : Page) {q r : Page} → q ≡ puts p (position_text a l k) → r ≡ puts q (word_text a l k)
-    → r ≡ puts p (node_text a l k)
-unfolding node_text
-node_is a l k p e f =
-    after p (position_text a l k) (word_text a l k) e f ∙ ap (λ x. puts p (position_text a l k ++ x)) (sym (word_last a l k))
-
-pub ruleset digit_laws = (rules, digit_text_lem, word_empty)
-
-pub ruleset mask_laws = (rules, bit_is, action_in, action_out)
-
-pub ruleset field_laws = (rules, field_is, position_is, node_is)
+pub ruleset field_laws = (writing, decimal_one, decimal_more, digit_is, word_last, divided_none, divided_again, div-zero, mod-zero)
 
 -- lengths
 

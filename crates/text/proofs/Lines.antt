@@ -16,72 +16,8 @@ use Rattle.text.specs.Page.{Page, puts}
 use Rattle.text.specs.Fields.{word_text, set_text, field_text, node_text}
 use Rattle.text.specs.Lines.{field_line, refused_line, losing_line, winning_line, head_line, start_line, allow_line, rank_line}
 use Rattle.text.specs.Lines.{start_at, start_lines, allow_at, allow_lines, rank_at, rank_lines}
-use Rattle.text.proofs.Page.{after, puts_nil, length_texts}
+use Rattle.text.proofs.Page.{length_texts}
 use Rattle.text.proofs.Fields.{length_word, length_actions, length_field, length_node}
-
-pub field_line_lem : (name : List ℕ) (n : ℕ) (p : Page) {q r : Page} → q ≡ puts p (field_text name n) → r ≡ puts q (ascii "\n")
-    → r ≡ puts p (field_line name n)
-unfolding field_line
-field_line_lem name n p e f = after p (field_text name n) (ascii "\n") e f
-
-pub head_is : (d n a m : ℕ) (p : Page) {q r s t : Page} → q ≡ puts p (field_text (ascii "lag ") d)
-    → r ≡ puts q (field_text (ascii " positions ") n) → s ≡ puts r (field_text (ascii " commands ") a)
-    → t ≡ puts s (field_line (ascii " reached ") m) → t ≡ puts p (head_line d n a m)
-unfolding head_line
-head_is d n a m p {q} {r} e f g h =
-    let last = field_text (ascii " commands ") a ++ field_line (ascii " reached ") m in
-    after p (field_text (ascii "lag ") d) (field_text (ascii " positions ") n ++ last) e
-    (after q (field_text (ascii " positions ") n) last f
-    (after r (field_text (ascii " commands ") a) (field_line (ascii " reached ") m) g h))
-
-pub start_is : (a l v : ℕ) (p : Page) {q r s : Page} → q ≡ puts p (ascii "start ") → r ≡ puts q (word_text a l v)
-    → s ≡ puts r (ascii "\n") → s ≡ puts p (start_line a l v)
-unfolding start_line
-start_is a l v p {q} e f g =
-    after p (ascii "start ") (word_text a l v ++ (ascii "\n")) e (after q (word_text a l v) (ascii "\n") f g)
-
-pub allow_is : (a l k mask : ℕ) (p : Page) {q r s t : Page} → q ≡ puts p (node_text a l k) → r ≡ puts q (ascii " allow ")
-    → s ≡ puts r (set_text a mask) → t ≡ puts s (ascii "\n") → t ≡ puts p (allow_line a l k mask)
-unfolding allow_line
-allow_is a l k mask p {q} {r} e f g h =
-    after p (node_text a l k) ((ascii " allow ") ++ (set_text a mask ++ (ascii "\n"))) e
-    (after q (ascii " allow ") (set_text a mask ++ (ascii "\n")) f (after r (set_text a mask) (ascii "\n") g h))
-
-pub rank_is : (a l k rank : ℕ) (p : Page) {q r : Page} → q ≡ puts p (node_text a l k)
-    → r ≡ puts q (field_line (ascii " rank ") rank) → r ≡ puts p (rank_line a l k rank)
-unfolding rank_line
-rank_is a l k rank p e f = after p (node_text a l k) (field_line (ascii " rank ") rank) e f
-
-pub ruleset line_laws = (rules, field_line_lem, start_is, allow_is, rank_is)
-
--- entries with a line, and without
-
-module _ (a l : ℕ) (xs : List ℕ) (k : ℕ) (p : Page) where
-  pub start_in : {q : Page} → get_or xs k 0 ≡ 1 → q ≡ puts p (start_line a l k) → q ≡ puts p (start_at a l xs k)
-  unfolding start_at
-  start_in e g = simp (eq-eqb (get_or xs k 0) 1 e) g
-
-  pub start_out : (get_or xs k 0 ≡ 1 → ⊥) → p ≡ puts p (start_at a l xs k)
-  unfolding start_at
-  start_out h = simp (ne_eqb (get_or xs k 0) 1 h) (sym (puts_nil p))
-
-  pub allow_in : {x : ℕ} {q : Page} → x ≡ get_or xs k 0 → (x ≡ 0 → ⊥) → q ≡ puts p (allow_line a l k x) → q ≡ puts p (allow_at a l xs k)
-  unfolding allow_at
-  allow_in e h g = rw (← e) (simp (ne_eqb _ 0 h) g)
-
-  pub allow_out : {x : ℕ} → x ≡ get_or xs k 0 → x ≡ 0 → p ≡ puts p (allow_at a l xs k)
-  unfolding allow_at
-  allow_out e z = simp (eq-eqb (get_or xs k 0) 0 (sym e ∙ z)) (sym (puts_nil p))
-
-  pub rank_in_lem : {x : ℕ} {q : Page} → x ≡ get_or xs k 0 → (x ≡ 0 → ⊥) → q ≡ puts p (rank_line a l k x) → q ≡ puts p (rank_at a l xs k)
-  unfolding rank_at
-  rank_in_lem e h g = rw (← e) (simp (ne_eqb _ 0 h) g)
-
-  pub rank_out : {x : ℕ} → x ≡ get_or xs k 0 → x ≡ 0 → p ≡ puts p (rank_at a l xs k)
-  unfolding rank_at
-  rank_out e z = simp (eq-eqb (get_or xs k 0) 0 (sym e ∙ z)) (sym (puts_nil p))
-
-pub ruleset entry_laws = (rules, start_in, start_out, allow_in, allow_out, rank_in_lem, rank_out)
 
 -- lengths
 

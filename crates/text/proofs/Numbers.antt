@@ -10,25 +10,9 @@ use lib.ListN.{length, get_or, length-append}
 use borrow.Author.Rules.{rules}
 use borrow.Author.Tests.{lt-ltb, le-ltb}
 use Rattle.theory.proofs.Fold.{below?}
-use Rattle.text.specs.Page.{Page, puts}
 use Rattle.text.specs.Numbers.{glyph, decimal_by, decimal_of, short_at, shorts_text}
 use Rattle.theory.specs.Bytes.{bytes_of}
-use Rattle.text.proofs.Page.{after, length_all}
-
-pub glyph_digit : (d : ℕ) → d < 10 → 48 + d ≡ glyph d
-unfolding glyph
-glyph_digit d h = simp (lt-ltb d 10 h)
-
-pub glyph_letter : (d : ℕ) → 10 ≤ d → d < 32 → 87 + d ≡ glyph d
-unfolding glyph
-glyph_letter d h g = simp (le-ltb d 10 h, lt-ltb d 32 g)
-
-pub glyph_none : (d : ℕ) → 32 ≤ d → 63 ≡ glyph d
-unfolding glyph
-glyph_none d h = let g : 10 ≤ d = omega arith in simp (le-ltb d 10 g, le-ltb d 32 h)
-
-pub glyph_is : (d : ℕ) (p : Page) {x : ℕ} {q : Page} → x ≡ glyph d → q ≡ puts p (x ∷ []) → q ≡ puts p (glyph d ∷ [])
-glyph_is d p a e = e ∙ ap (λ u. puts p (u ∷ [])) a
+use Rattle.text.proofs.Page.{length_all}
 
 -- decimal numbers
 
@@ -63,29 +47,11 @@ decimal_more n h =
     by_more n n h
     ∙ ap (λ t. t ++ (glyph (n % 10) ∷ [])) (by_any n (suc (n / 10)) (n / 10) (omega arith) (omega arith))
 
-pub number_one : (n : ℕ) (p : Page) {q : Page} → n < 10 → q ≡ puts p (glyph n ∷ []) → q ≡ puts p (decimal_of n)
-number_one n p h e = e ∙ ap (puts p) (sym (decimal_one n h))
-
-pub number_more : (n : ℕ) (p : Page) {q r : Page} → 10 ≤ n → q ≡ puts p (decimal_of (n / 10)) → r ≡ puts q (glyph (n % 10) ∷ [])
-    → r ≡ puts p (decimal_of n)
-number_more n p h e f = after p (decimal_of (n / 10)) (glyph (n % 10) ∷ []) e f ∙ ap (puts p) (sym (decimal_more n h))
-
 -- bytes
 
 pub bytes_two : (n : ℕ) → bytes_of 2 n ≡ n % 256 ∷ n / 256 % 256 ∷ []
 unfolding bytes_of
 bytes_two n = refl
-
-pub bytes2_is : (n : ℕ) (p : Page) {x y : ℕ} {q r : Page} → x ≡ n % 256 → q ≡ puts p (x ∷ []) → y ≡ n / 256 % 256
-    → r ≡ puts q (y ∷ []) → r ≡ puts p (bytes_of 2 n)
-unfolding bytes_of
-bytes2_is n p {x} {y} a e b f = after p (x ∷ []) (y ∷ []) e f ∙ ap (λ u. puts p (u ∷ y ∷ [])) a ∙ ap (λ u. puts p (n % 256 ∷ u ∷ [])) b
-
-pub short_is : (xs : List ℕ) (k : ℕ) (p : Page) {x : ℕ} {q : Page} → x ≡ get_or xs k 0 → q ≡ puts p (bytes_of 2 x) → q ≡ puts p (short_at xs k)
-unfolding short_at
-short_is xs k p a e = e ∙ ap (λ u. puts p (bytes_of 2 u)) a
-
-pub ruleset number_laws = (rules, glyph_digit, glyph_letter, glyph_none, glyph_is, number_one, number_more, bytes2_is, short_is)
 
 -- lengths
 

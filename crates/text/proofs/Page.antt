@@ -2,7 +2,8 @@
 use Prim.Native.Nat.{ℕ, zero, suc, ◌+◌, ◌-◌, ◌*◌, ◌≤◌, ◌<◌}
 use mathlib.Core.Path.{◌≡◌, refl, sym, ap, ◌∙◌}
 use mathlib.Core.Logic.{⊎_elim}
-use mathlib.Core.List.{List, [], ◌∷◌, ◌++◌}
+use mathlib.Core.List.{List, [], ◌∷◌, ◌++◌, append_assoc}
+use Rattle.std.proofs.lemmas.List.{append-nil, take_more}
 use native.Mathlib.Omega.{arith}
 use native.Mathlib.Numerals.{add-one}
 use native.Mathlib.Nat.{suc-mul}
@@ -114,41 +115,33 @@ unfolding texts_from
 texts_same f g k zero h = refl
 texts_same f g k (suc n) h = ap (λ t. t ++ texts_from f (suc k) n) (h k) ∙ ap (λ t. g k ++ t) (texts_same f g (suc k) n h)
 
-pub texts_start : (f : ℕ → List ℕ) (p : Page) (n : ℕ) → puts p (texts_from f 0 n) ≡ puts p (texts_from f 0 (n - 0))
-texts_start f p n = let e : n ≡ n - 0 = omega arith in ap (λ m. puts p (texts_from f 0 m)) e
+-- one entry more
+texts_more : (f : ℕ → List ℕ) (k n : ℕ) → texts_from f k (suc n) ≡ texts_from f k n ++ f (k + n)
+texts_more f k zero =
+    let e : k ≡ k + 0 = omega arith in
+    texts_suc f k zero
+    ∙ ap (λ t. f k ++ t) (texts_none f (suc k))
+    ∙ append-nil (f k)
+    ∙ ap f e
+    ∙ sym (ap (λ t. t ++ f (k + 0)) (texts_none f k))
+texts_more f k (suc n) =
+    let e : suc k + n ≡ k + suc n = omega arith in
+    texts_suc f k (suc n)
+    ∙ ap (λ t. f k ++ t) (texts_more f (suc k) n ∙ ap (λ i. texts_from f (suc k) n ++ f i) e)
+    ∙ sym (append_assoc (f k) (texts_from f (suc k) n) (f (k + suc n)))
+    ∙ ap (λ t. t ++ f (k + suc n)) (sym (texts_suc f k n))
 
--- the next turn of a loop: what was left at k is written, and the rest is left
-pub texts_again : (f : ℕ → List ℕ) (k n : ℕ) (p : Page) {q w : Page} → k < n
-    → w ≡ puts p (texts_from f k (n - k)) → q ≡ puts p (f k) → w ≡ puts q (texts_from f (k + 1) (n - (k + 1)))
-texts_again f k n p {q} h e g =
-    let m : n - k ≡ suc (n - (k + 1)) = omega arith in
-    e
-    ∙ ap (λ j. puts p (texts_from f k j)) m
-    ∙ ap (puts p) (texts_suc f k (n - (k + 1)))
-    ∙ puts_append p (f k) (texts_from f (suc k) (n - (k + 1)))
-    ∙ ap (λ s. puts s (texts_from f (suc k) (n - (k + 1)))) (sym g)
-    ∙ ap (λ j. puts q (texts_from f j (n - (k + 1)))) (sym (add-one k))
+-- the texts of a loop as far as it has come
+pub texts_next : (f : ℕ → List ℕ) (k : ℕ) → texts_from f 0 (k + 1) ≡ texts_from f 0 k ++ f k
+texts_next f k =
+    let e : 0 + k ≡ k = omega arith in
+    ap (texts_from f 0) (add-one k) ∙ texts_more f 0 k ∙ ap (λ i. texts_from f 0 k ++ f i) e
 
-pub texts_done : (f : ℕ → List ℕ) (k n : ℕ) (p : Page) {w : Page} → n ≤ k → w ≡ puts p (texts_from f k (n - k)) → p ≡ w
-texts_done f k n p h e =
-    let m : n - k ≡ 0 = omega arith in
-    sym (e ∙ ap (λ j. puts p (texts_from f k j)) m ∙ ap (puts p) (texts_none f k) ∙ puts_nil p)
+pub take_next : (l : List ℕ) (k : ℕ) → k < length l → take (k + 1) l ≡ take k l ++ (get_or l k 0 ∷ [])
+take_next l k h = take_more l k 0 h
 
--- what holds at the head of a writer's loop: what is left to write gives the whole
-abbrev pub Along : (ℕ → List ℕ) → ℕ → List ℕ → ℕ → List ℕ → ℕ → ℕ → Type 0
-Along f n out₀ at out to k =
-    (k ≤ n)
-    × (length out ≡ length out₀)
-    × (puts (page out₀ at) (texts_from f 0 n) ≡ puts (page out to) (texts_from f k (n - k)))
-
--- as the code asks them: a byte; the begin, the next turn and the end of a loop
-pub ruleset byte_laws = (rules, byte_in, byte_out)
-
-pub ruleset begins = (rules, texts_start)
-
-pub ruleset goes_on = (rules, texts_again)
-
-pub ruleset ends = (rules, texts_done)
+-- as the code asks them: what was written is one text
+pub ruleset writing = (puts_nil, puts_append, texts_none, texts_next, take_next)
 
 -- a list is its bytes, one after the other
 

@@ -1,54 +1,48 @@
 // Bytes, slices of bytes and numbers of two bytes.
-ghost use Rattle.std.specs.Prelude.{◌∷◌, [], ◌<◌, length};
-ghost use Rattle.text.specs.Page.{Writes};
-ghost use Rattle.text.specs.Numbers.{short_at, shorts_text};
+#![tactic(auto, using(crate::proofs::Page::writing), unfolding(crate::specs::Page::puts, crate::specs::Numbers::shorts_text, crate::specs::Numbers::short_at, theory::specs::Bytes::bytes_of))]
+
+ghost use Rattle.std.specs.Prelude.{◌∷◌, []};
+ghost use Rattle.text.specs.Page.{Puts};
+ghost use Rattle.text.specs.Numbers.{shorts_text};
 ghost use Rattle.theory.specs.Bytes.{bytes_of};
 
-use sheet::form::{low_byte, wide16};
+use super::buffer::Page;
 
-pub fn put_byte(out: &mut [u8], at: usize, byte: u8) -> usize
-    ensures { Writes out.old at (byte ∷ []) out.new result }
-{
-    if at < out.len() {
-        out[at] = byte;
-        return at + 1;
+impl Page<'_> {
+    #[tactic(auto, unfolding(crate::specs::Page::put, crate::specs::Page::puts))]
+    pub fn put_byte(&mut self, byte: u8)
+        ensures { Puts self.old (byte ∷ []) self.new }
+    {
+        if self.at < self.out.len() {
+            self.out[self.at] = byte;
+            self.at += 1;
+        }
     }
-    at
-}
 
-// Copies a slice.
-pub fn put_text(out: &mut [u8], at: usize, text: &[u8]) -> usize
-    ensures { Writes out.old at text.now out.new result }
-{
-    let mut to = at;
-    for k in 0..text.len() {
-        to = put_byte(out, to, text[k]);
+    // Copies a slice.
+    pub fn put_text(&mut self, text: &[u8])
+        ensures { Puts self.old text.now self.new }
+    {
+        for &byte in text {
+            self.put_byte(byte);
+        }
     }
-    to
-}
 
-// The lowest two bytes of a number, low byte first.
-pub fn put_bytes2(out: &mut [u8], at: usize, n: usize) -> usize
-    ensures { Writes out.old at (bytes_of 2 n) out.new result }
-{
-    let to = put_byte(out, at, low_byte(n));
-    put_byte(out, to, low_byte(n / 256))
-}
-
-fn put_short_at(out: &mut [u8], at: usize, numbers: &[u16], k: usize) -> usize
-    requires { k < length numbers.now }
-    ensures { Writes out.old at (short_at numbers.now k) out.new result }
-{
-    put_bytes2(out, at, wide16(numbers[k]))
-}
-
-// Every entry of a slice in two bytes, low byte first.
-pub fn put_shorts(out: &mut [u8], at: usize, numbers: &[u16]) -> usize
-    ensures { Writes out.old at (shorts_text numbers.now) out.new result }
-{
-    let mut to = at;
-    for k in 0..numbers.len() {
-        to = put_short_at(out, to, numbers, k);
+    // The lowest two bytes of a number, low byte first.
+    pub fn put_bytes2(&mut self, n: usize)
+        ensures { Puts self.old (bytes_of 2 n) self.new }
+    {
+        let [low, high, ..] = n.to_le_bytes();
+        self.put_byte(low);
+        self.put_byte(high);
     }
-    to
+
+    // Every entry of a slice in two bytes, low byte first.
+    pub fn put_shorts(&mut self, numbers: &[u16])
+        ensures { Puts self.old (shorts_text numbers.now) self.new }
+    {
+        for &number in numbers {
+            self.put_bytes2(usize::from(number));
+        }
+    }
 }

@@ -1,56 +1,30 @@
 // Decimal numbers, words and sets of actions.
+#![tactic(auto, using(crate::proofs::Fields::field_laws), unfolding(crate::specs::Fields::digit_text, crate::specs::Fields::word_text, crate::specs::Fields::action_text, crate::specs::Fields::set_text))]
+
 ghost use Rattle.std.specs.Prelude.{◌≡◌, ◌∷◌, [], ◌/◌, ◌%◌, ◌^◌, ◌<◌};
 ghost use Rattle.theory.specs.Table.{bit};
-ghost use Rattle.text.specs.Page.{Writes};
+ghost use Rattle.text.specs.Page.{Puts};
 ghost use Rattle.text.specs.Numbers.{glyph, decimal_of};
 ghost use Rattle.text.specs.Fields.{digit_text, word_text, action_text, set_text};
 
-use super::bytes::put_byte;
+use super::buffer::Page;
 
+// The form of a node's word: out of how many actions its digits are, and how many it has.
+#[derive(Clone, Copy)]
+pub struct Form {
+    pub actions: usize,
+    pub count: usize,
+}
+
+#[tactic(auto, unfolding(crate::specs::Numbers::glyph))]
 fn glyph_of(d: usize) -> u8
     ensures { result ≡ glyph d }
 {
-    if d < 10 {
-        return b'0' + d as u8;
+    match d {
+        0..10 => b'0' + d as u8,
+        10..32 => b'a' + (d - 10) as u8,
+        _ => b'?',
     }
-    if d < 32 {
-        return 87 + d as u8;
-    }
-    b'?'
-}
-
-fn put_glyph(out: &mut [u8], at: usize, d: usize) -> usize
-    ensures { Writes out.old at (glyph d ∷ []) out.new result }
-{
-    put_byte(out, at, glyph_of(d))
-}
-
-pub fn put_number(out: &mut [u8], at: usize, n: usize) -> usize
-    ensures { Writes out.old at (decimal_of n) out.new result }
-{
-    if n < 10 {
-        return put_glyph(out, at, n);
-    }
-    let to = put_number(out, at, n / 10);
-    put_glyph(out, to, n % 10)
-}
-
-fn quotient(n: usize, base: usize) -> usize
-    ensures { result ≡ n / base }
-{
-    if base == 0 {
-        return 0;
-    }
-    n / base
-}
-
-fn remainder(n: usize, base: usize) -> usize
-    ensures { result ≡ n % base }
-{
-    if base == 0 {
-        return n;
-    }
-    n % base
 }
 
 // A number without its last digits in a base.
@@ -59,63 +33,69 @@ pub(crate) fn without_last(n: usize, base: usize, count: usize) -> usize
 {
     let mut rest = n;
     for _ in 0..count {
-        rest = quotient(rest, base);
+        rest = rest.checked_div(base).unwrap_or(0);
     }
     rest
 }
 
-fn put_digit(
-    out: &mut [u8],
-    at: usize,
-    actions: usize,
-    count: usize,
-    word: usize,
-    i: usize,
-) -> usize
-    requires { i < count }
-    ensures { Writes out.old at (digit_text actions count word i) out.new result }
-{
-    let younger = count - 1 - i;
-    let shown = without_last(word, actions, younger);
-    put_glyph(out, at, remainder(shown, actions))
-}
-
-// The word of `count` actions, oldest first.
-pub fn put_word(out: &mut [u8], at: usize, actions: usize, count: usize, word: usize) -> usize
-    ensures { Writes out.old at (word_text actions count word) out.new result }
-{
-    if count == 0 {
-        return put_byte(out, at, b'-');
-    }
-    let mut to = at;
-    for i in 0..count {
-        to = put_digit(out, to, actions, count, word, i);
-    }
-    to
-}
-
+#[tactic(auto, unfolding(theory::specs::Table::bit))]
 fn has_action(mask: usize, c: usize) -> bool
     ensures { result ≡ bit mask c }
 {
     without_last(mask, 2, c) % 2 == 1
 }
 
-fn put_action(out: &mut [u8], at: usize, mask: usize, c: usize) -> usize
-    ensures { Writes out.old at (action_text mask c) out.new result }
-{
-    if has_action(mask, c) {
-        return put_glyph(out, at, c);
+impl Page<'_> {
+    fn put_glyph(&mut self, d: usize)
+        ensures { Puts self.old (glyph d ∷ []) self.new }
+    {
+        self.put_byte(glyph_of(d));
     }
-    at
-}
 
-// The actions of a mask, rising.
-pub fn put_set(out: &mut [u8], at: usize, actions: usize, mask: usize) -> usize
-    ensures { Writes out.old at (set_text actions mask) out.new result }
-{
-    let mut to = at;
-    for c in 0..actions {
-        to = put_action(out, to, mask, c);
+    pub fn put_number(&mut self, n: usize)
+        ensures { Puts self.old (decimal_of n) self.new }
+    {
+        if n >= 10 {
+            self.put_number(n / 10);
+        }
+        self.put_glyph(n % 10);
     }
-    to
+
+    fn put_digit(&mut self, form: Form, word: usize, i: usize)
+        requires { i < form.count }
+        ensures { Puts self.old (digit_text form.actions form.count word i) self.new }
+    {
+        let younger = form.count - 1 - i;
+        let shown = without_last(word, form.actions, younger);
+        self.put_glyph(shown.checked_rem(form.actions).unwrap_or(shown));
+    }
+
+    // A word, oldest action first.
+    pub fn put_word(&mut self, form: Form, word: usize)
+        ensures { Puts self.old (word_text form.actions form.count word) self.new }
+    {
+        if form.count == 0 {
+            return self.put_byte(b'-');
+        }
+        for i in 0..form.count {
+            self.put_digit(form, word, i);
+        }
+    }
+
+    fn put_action(&mut self, mask: usize, c: usize)
+        ensures { Puts self.old (action_text mask c) self.new }
+    {
+        if has_action(mask, c) {
+            self.put_glyph(c);
+        }
+    }
+
+    // The actions of a mask, rising.
+    pub fn put_set(&mut self, actions: usize, mask: usize)
+        ensures { Puts self.old (set_text actions mask) self.new }
+    {
+        for c in 0..actions {
+            self.put_action(mask, c);
+        }
+    }
 }

@@ -1,7 +1,0 @@
--- `quotient` meets its contract. Assumes nothing.
-use borrow.Author.Rules.{rules}
-use Rattle.text.proofs.Fields.{quotient_none}
-use Rattle.text.proofs.digits.quotient.Goals as goal
-
-pub returns-then-base-eq0 : goal.returns-then-base-eq0
-returns-then-base-eq0 c = search (rules, quotient_none)
