@@ -4,7 +4,7 @@ use Rattle.theory.proofs.Computing.{bytes_compute, words_compute, tables_compute
 use Rattle.text.specs.Page.{texts_from}
 use Rattle.text.specs.Numbers.{glyph, decimal_by, decimal_of, short_at, shorts_text}
 use Rattle.text.specs.Fields.{digit_text, word_text, action_text, set_text, field_text, position_text, node_text}
-use Rattle.text.specs.Lines.{field_line, losing_line, refused_line, winning_line, head_line, start_line, allow_line, rank_line, start_at, start_lines, allow_at, allow_lines, rank_at, rank_lines}
+use Rattle.text.specs.Lines.{field_line, losing_line, refused_line, winning_line, head_line, start_line, allow_line, rank_line, start_entry, start_at, start_lines, allow_entry, allow_at, allow_lines, rank_entry, rank_at, rank_lines}
 
 unfoldable pub numbers_compute : Bool
 unfolding glyph decimal_by decimal_of short_at shorts_text
@@ -15,7 +15,7 @@ unfolding digit_text word_text action_text set_text field_text position_text nod
 fields_compute = true
 
 unfoldable pub lines_compute : Bool
-unfolding field_line losing_line refused_line winning_line head_line start_line allow_line rank_line start_at start_lines allow_at allow_lines rank_at rank_lines
+unfolding field_line losing_line refused_line winning_line head_line start_line allow_line rank_line start_entry start_at start_lines allow_entry allow_at allow_lines rank_entry rank_at rank_lines
 lines_compute = true
 
 unfoldable pub text_computes : Bool

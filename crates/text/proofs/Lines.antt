@@ -12,12 +12,28 @@ use borrow.Author.Rules.{rules}
 use borrow.Author.Tests.{eq-eqb, ne_eqb}
 use Rattle.theory.proofs.Fold.{bool}
 use Rattle.text.specs.Ascii.{ascii}
-use Rattle.text.specs.Page.{Page, puts}
+use Rattle.text.specs.Page.{texts_of}
 use Rattle.text.specs.Fields.{word_text, set_text, field_text, node_text}
 use Rattle.text.specs.Lines.{field_line, refused_line, losing_line, winning_line, head_line, start_line, allow_line, rank_line}
-use Rattle.text.specs.Lines.{start_at, start_lines, allow_at, allow_lines, rank_at, rank_lines}
-use Rattle.text.proofs.Page.{length_texts}
-use Rattle.text.proofs.Fields.{length_word, length_actions, length_field, length_node}
+use Rattle.text.specs.Lines.{start_entry, start_at, start_lines, allow_entry, allow_at, allow_lines, rank_entry, rank_at, rank_lines}
+use Rattle.text.proofs.Page.{texts_of_from, length_texts}
+use Rattle.text.proofs.Fields.{field_laws, length_word, length_actions, length_field, length_node}
+
+-- the lines of entries, one by one
+
+pub starts_are : (a l : ℕ) (xs : List ℕ) → texts_of (start_entry a l) 0 xs ≡ start_lines a l xs
+unfolding start_lines start_at
+starts_are a l xs = texts_of_from (start_entry a l) xs
+
+pub allows_are : (a l : ℕ) (xs : List ℕ) → texts_of (allow_entry a l) 0 xs ≡ allow_lines a l xs
+unfolding allow_lines allow_at
+allows_are a l xs = texts_of_from (allow_entry a l) xs
+
+pub ranks_are : (a l : ℕ) (xs : List ℕ) → texts_of (rank_entry a l) 0 xs ≡ rank_lines a l xs
+unfolding rank_lines rank_at
+ranks_are a l xs = texts_of_from (rank_entry a l) xs
+
+pub ruleset line_laws = (field_laws, starts_are, allows_are, ranks_are)
 
 -- lengths
 
@@ -75,7 +91,7 @@ length_rank a l k rank d w j h g i f =
 -- many lines: an entry without a line adds nothing
 
 length_start_at : (a l : ℕ) (flags : List ℕ) (v w : ℕ) → 1 ≤ w → l ≤ w → length (start_at a l flags v) ≤ 7 + w
-unfolding start_at
+unfolding start_at start_entry
 length_start_at a l flags v w h g =
     ⊎_elim
     (λ (t : eqb (get_or flags v 0) 1 ≡ true). simp t (length_start a l v w h g))
@@ -89,7 +105,7 @@ length_starts a l flags w h g =
 
 length_allow_at : (a l : ℕ) (masks : List ℕ) (k d w : ℕ) → k / a ^ l < 10 ^ suc d → 1 ≤ w → l ≤ w
     → length (allow_at a l masks k) ≤ 15 + d + w + a
-unfolding allow_at
+unfolding allow_at allow_entry
 length_allow_at a l masks k d w h g i =
     ⊎_elim
     (λ (t : eqb (get_or masks k 0) 0 ≡ true). simp t (omega arith))
@@ -98,7 +114,7 @@ length_allow_at a l masks k d w h g i =
 
 length_rank_at : (a l : ℕ) (ranks : List ℕ) (k d w j : ℕ) → k / a ^ l < 10 ^ suc d → 1 ≤ w → l ≤ w → get_or ranks k 0 < 10 ^ suc j
     → length (rank_at a l ranks k) ≤ 15 + d + w + j
-unfolding rank_at
+unfolding rank_at rank_entry
 length_rank_at a l ranks k d w j h g i q =
     ⊎_elim
     (λ (t : eqb (get_or ranks k 0) 0 ≡ true). simp t (omega arith))

@@ -7,12 +7,13 @@ use Rattle.std.proofs.lemmas.List.{append-nil, take_more}
 use native.Mathlib.Omega.{arith}
 use native.Mathlib.Numerals.{add-one}
 use native.Mathlib.Nat.{suc-mul}
-use lib.ListN.{length, take, drop, set, get_or, length-set, length-append}
+use lib.ListN.{length, take, drop, set, get_or, length-set, length-append, length-take}
 use lib.Seq.{sets, sets-eq, drop-cons, drop-length}
 use borrow.Author.Rules.{rules}
 use borrow.Author.Tests.{lt-ltb, le-ltb}
 use Rattle.theory.proofs.Fold.{below?}
-use Rattle.text.specs.Page.{Page, page, put, puts, texts_from}
+use Rattle.text.specs.declared.buffer.Page as lent
+use Rattle.text.specs.Page.{Page, page, put, puts, held, Puts, texts_from, texts_of}
 
 -- a byte with room for it, and one without
 pub byte_in : (l : List ℕ) (n b : ℕ) → n < length l → page (set l n b) (n + 1) ≡ puts (page l n) (b ∷ [])
@@ -140,8 +141,59 @@ texts_next f k =
 pub take_next : (l : List ℕ) (k : ℕ) → k < length l → take (k + 1) l ≡ take k l ++ (get_or l k 0 ∷ [])
 take_next l k h = take_more l k 0 h
 
+-- the texts of entries, in the same way
+
+texts_of_suc : {T : Type 0} (f : ℕ → T → List ℕ) (k : ℕ) (x : T) (xs : List T) → texts_of f k (x ∷ xs) ≡ f k x ++ texts_of f (suc k) xs
+unfolding texts_of
+texts_of_suc f k x xs = refl
+
+pub texts_of_none : {T : Type 0} (f : ℕ → T → List ℕ) (k : ℕ) → texts_of f k [] ≡ []
+unfolding texts_of
+texts_of_none f k = refl
+
+texts_of_more : {T : Type 0} (f : ℕ → T → List ℕ) (xs : List T) (k : ℕ) (x : T) → texts_of f k (xs ++ (x ∷ [])) ≡ texts_of f k xs ++ f (k + length xs) x
+texts_of_more f [] k x =
+    let e : k ≡ k + 0 = omega arith in
+    texts_of_suc f k x []
+    ∙ ap (λ t. f k x ++ t) (texts_of_none f (suc k))
+    ∙ append-nil (f k x)
+    ∙ ap (λ i. f i x) e
+    ∙ sym (ap (λ t. t ++ f (k + 0) x) (texts_of_none f k))
+texts_of_more f (y ∷ xs) k x =
+    let e : suc k + length xs ≡ k + suc (length xs) = omega arith in
+    texts_of_suc f k y (xs ++ (x ∷ []))
+    ∙ ap (λ t. f k y ++ t) (texts_of_more f xs (suc k) x ∙ ap (λ i. texts_of f (suc k) xs ++ f i x) e)
+    ∙ sym (append_assoc (f k y) (texts_of f (suc k) xs) (f (k + suc (length xs)) x))
+    ∙ ap (λ t. t ++ f (k + suc (length xs)) x) (sym (texts_of_suc f k y xs))
+
+-- as texts of a number alone
+texts_of_drop : (f : ℕ → ℕ → List ℕ) (xs : List ℕ) (k n : ℕ) → k + n ≡ length xs → texts_of f k (drop k xs) ≡ texts_from (λ i. f i (get_or xs i 0)) k n
+texts_of_drop f xs k zero e =
+    let q : k ≡ length xs = omega arith in
+    ap (texts_of f k) (rw q (drop-length xs)) ∙ texts_of_none f k ∙ sym (texts_none (λ i. f i (get_or xs i 0)) k)
+texts_of_drop f xs k (suc n) e =
+    ap (texts_of f k) (drop-cons xs k 0 (omega arith))
+    ∙ texts_of_suc f k (get_or xs k 0) (drop (suc k) xs)
+    ∙ ap (λ t. f k (get_or xs k 0) ++ t) (texts_of_drop f xs (suc k) n (omega arith))
+    ∙ sym (texts_suc (λ i. f i (get_or xs i 0)) k n)
+
+pub texts_of_from : (f : ℕ → ℕ → List ℕ) (xs : List ℕ) → texts_of f 0 xs ≡ texts_from (λ i. f i (get_or xs i 0)) 0 (length xs)
+texts_of_from f xs = texts_of_drop f xs 0 (length xs) (omega arith)
+
+-- the next entry of a loop is written
+pub entry_next : {T : Type 0} (f : ℕ → T → List ℕ) (xs : List T) (k : ℕ) (x : T) {p q r : lent.Page} → k < length xs
+    → x ≡ get_or xs k x → Puts p (texts_of f 0 (take k xs)) q → Puts q (f k x) r → Puts p (texts_of f 0 (take (k + 1) xs)) r
+entry_next f xs k x {p} h i e g =
+    let j : 0 + length (take k xs) ≡ k = rw length-take (omega arith) in
+    let n : texts_of f 0 (take (k + 1) xs) ≡ texts_of f 0 (take k xs) ++ f k x =
+        ap (texts_of f 0) (take_more xs k x h ∙ ap (λ y. take k xs ++ (y ∷ [])) (sym i)) ∙ texts_of_more f (take k xs) 0 x ∙ ap (λ i. texts_of f 0 (take k xs) ++ f i x) j in
+    record {
+      same_reference = g.same_reference ∙ e.same_reference;
+      text = after (held p) (texts_of f 0 (take k xs)) (f k x) e.text g.text ∙ ap (puts (held p)) (sym n)
+    }
+
 -- as the code asks them: what was written is one text
-pub ruleset writing = (puts_nil, puts_append, texts_none, texts_next, take_next)
+pub ruleset writing = (puts_nil, puts_append, texts_none, texts_next, texts_of_none, take_next)
 
 -- a list is its bytes, one after the other
 

@@ -39,22 +39,31 @@ unfoldable pub rank_line : ℕ → ℕ → ℕ → ℕ → List ℕ
 rank_line a l k rank = node_text a l k ++ field_line (ascii " rank ") rank
 
 -- a line for each initial word with the flag 1
+unfoldable pub start_entry : ℕ → ℕ → ℕ → ℕ → List ℕ
+start_entry a l v flag = cond (eqb flag 1) (start_line a l v) []
+
 unfoldable pub start_at : ℕ → ℕ → List ℕ → ℕ → List ℕ
-start_at a l flags v = cond (eqb (get_or flags v 0) 1) (start_line a l v) []
+start_at a l flags v = start_entry a l v (get_or flags v 0)
 
 unfoldable pub start_lines : ℕ → ℕ → List ℕ → List ℕ
 start_lines a l flags = texts_from (start_at a l flags) 0 (length flags)
 
 -- a line for each node with a mask
+unfoldable pub allow_entry : ℕ → ℕ → ℕ → ℕ → List ℕ
+allow_entry a l k mask = cond (eqb mask 0) [] (allow_line a l k mask)
+
 unfoldable pub allow_at : ℕ → ℕ → List ℕ → ℕ → List ℕ
-allow_at a l masks k = cond (eqb (get_or masks k 0) 0) [] (allow_line a l k (get_or masks k 0))
+allow_at a l masks k = allow_entry a l k (get_or masks k 0)
 
 unfoldable pub allow_lines : ℕ → ℕ → List ℕ → List ℕ
 allow_lines a l masks = texts_from (allow_at a l masks) 0 (length masks)
 
 -- a line for each node with a rank
+unfoldable pub rank_entry : ℕ → ℕ → ℕ → ℕ → List ℕ
+rank_entry a l k rank = cond (eqb rank 0) [] (rank_line a l k rank)
+
 unfoldable pub rank_at : ℕ → ℕ → List ℕ → ℕ → List ℕ
-rank_at a l ranks k = cond (eqb (get_or ranks k 0) 0) [] (rank_line a l k (get_or ranks k 0))
+rank_at a l ranks k = rank_entry a l k (get_or ranks k 0)
 
 unfoldable pub rank_lines : ℕ → ℕ → List ℕ → List ℕ
 rank_lines a l ranks = texts_from (rank_at a l ranks) 0 (length ranks)

@@ -34,3 +34,8 @@ pub record Puts (p : lent.Page) (t : List ℕ) (q : lent.Page) : Type 0 where
 unfoldable pub texts_from : (ℕ → List ℕ) → ℕ → ℕ → List ℕ
 texts_from f k zero = []
 texts_from f k (suc n) = f k ++ texts_from f (suc k) n
+
+-- the texts f k x of the entries x, numbered from k, one after the other
+unfoldable pub texts_of : {T : Type 0} → (ℕ → T → List ℕ) → ℕ → List T → List ℕ
+texts_of f k [] = []
+texts_of f k (x ∷ xs) = f k x ++ texts_of f (suc k) xs

@@ -1,8 +1,8 @@
 // The lines of the listing, and the writers of many lines.
-#![tactic(auto, using(crate::proofs::Fields::field_laws), unfolding(crate::specs::Page::puts, crate::specs::Fields::field_text, crate::specs::Fields::position_text, crate::specs::Fields::node_text, crate::specs::Lines::field_line, crate::specs::Lines::refused_line, crate::specs::Lines::losing_line, crate::specs::Lines::winning_line, crate::specs::Lines::head_line, crate::specs::Lines::start_line, crate::specs::Lines::allow_line, crate::specs::Lines::rank_line))]
+#![tactic(auto, using(crate::proofs::Lines::line_laws), unfolding(crate::specs::Page::puts, crate::specs::Fields::field_text, crate::specs::Fields::position_text, crate::specs::Fields::node_text, crate::specs::Lines::field_line, crate::specs::Lines::refused_line, crate::specs::Lines::losing_line, crate::specs::Lines::winning_line, crate::specs::Lines::head_line, crate::specs::Lines::start_line, crate::specs::Lines::allow_line, crate::specs::Lines::rank_line, crate::specs::Lines::start_entry, crate::specs::Lines::allow_entry, crate::specs::Lines::rank_entry))]
 
 ghost use Rattle.std.specs.Prelude.{ℕ, List};
-ghost use Rattle.text.specs.Page.{Puts};
+ghost use Rattle.text.specs.Page.{Puts, texts_of};
 ghost use Rattle.text.specs.Fields.{field_text, position_text, node_text};
 ghost use Rattle.text.specs.Lines.{field_line, refused_line, losing_line, winning_line, head_line, start_line, allow_line, rank_line};
 ghost use Rattle.text.specs.Lines.{start_lines, allow_lines, rank_lines};
@@ -89,5 +89,52 @@ impl Page<'_> {
     {
         self.put_node(form, node);
         self.put_field_line(b" rank ", rank);
+    }
+
+    // What `put` writes of each entry and its number.
+    #[tactic(auto, using(crate::proofs::Page::writing))]
+    fn put_lines<T: Copy + Drop, F: Fn(&mut Page, usize, T)>(&mut self, entries: &[T], put: F)
+        ghost line: { ℕ → T → List ℕ }
+        requires callable { F.IsAlwaysCallable put }
+        requires writes { (p : _) (k : ℕ) (x : T) (q : _) → F.post put p k x tt q
+            → Puts p.now (line k x) q.now }
+        ensures { Puts self.old (texts_of line 0 entries.now) self.new }
+    {
+        for (k, &entry) in entries.iter().enumerate() {
+            put(self, k, entry);
+        }
+    }
+
+    // A line for each entry that is 1.
+    pub fn put_starts(&mut self, form: Form, flags: &[u8])
+        ensures { Puts self.old (start_lines form.actions form.count flags.now) self.new }
+    {
+        self.put_lines(flags, |page, word, flag| {
+            if flag == 1 {
+                page.put_start(form, word);
+            }
+        });
+    }
+
+    // A line for each entry that is not 0.
+    pub fn put_allows(&mut self, form: Form, masks: &[u8])
+        ensures { Puts self.old (allow_lines form.actions form.count masks.now) self.new }
+    {
+        self.put_lines(masks, |page, node, mask| {
+            if mask != 0 {
+                page.put_allow(form, node, usize::from(mask));
+            }
+        });
+    }
+
+    // A line for each entry that is not 0.
+    pub fn put_ranks(&mut self, form: Form, ranks: &[u16])
+        ensures { Puts self.old (rank_lines form.actions form.count ranks.now) self.new }
+    {
+        self.put_lines(ranks, |page, node, rank| {
+            if rank != 0 {
+                page.put_rank(form, node, usize::from(rank));
+            }
+        });
     }
 }
