@@ -5,7 +5,7 @@ use mathlib.Core.Bool.{true}
 use mathlib.Core.List.{List, [], ◌++◌}
 use native.Mathlib.Omega.{arith}
 use lib.Dec.{eqb}
-use lib.ListN.{length, get_or, take, drop, replicate, length-replicate, length-append}
+use lib.ListN.{length, get_or, take, drop, replicate, length-replicate, length-append, length-take}
 use lib.Seq.{take-append_seam}
 use borrow.Author.Rules.{rules}
 use borrow.Author.Tests.{le-leb, lt-ltb}
@@ -37,8 +37,6 @@ use Rattle.walk.specs.code.Nodes.{Sized}
 use Rattle.walk.proofs.LevelLaws.{arena_is}
 use Rattle.walk.proofs.NodeLaws.{fitted}
 use Rattle.region.proofs.ReadLaws.{room_read, game_read, is_level, sized_read}
-use Rattle.text.specs.Page.{Page, page, puts}
-use Rattle.text.proofs.Page.{written}
 use Rattle.judge.specs.code.Judgeable.{table_with}
 use Rattle.prune.specs.code.Pruning.{fallen_in, Standing, is_prunable, PrunedBy, PrunedLeft, Pruned}
 use Rattle.prune.proofs.CutLaws.{pruned_standing, pruned_sized}
@@ -169,29 +167,19 @@ module _ (s : List ℕ) (l : Layout) (reads : read_answer s ≡ accepted l) (ps 
         pr.cut.below
         (λ m i st b. pr.cut.holds m i (masks_stand m i.count st) b)
 
-    -- in the buffer: n masks were copied to its front and pruned there
-    module _ (n r : ℕ) (buffer copied t : List ℕ) (en : n ≡ length masks) (room : most_nodes ≤ length buffer)
-        (wrote : page copied r ≡ puts (page buffer 0) masks) where
-      few : length masks ≤ most_nodes
-      few = omega (arith, sized.count, arena_nodes s d, few_nodes s l reads)
+    -- in a buffer with room: they are copied to its front and pruned there
+    module _ (buffer : List ℕ) (room : most_nodes ≤ length buffer) where
+      pub copy_inside : length masks ≤ length buffer
+      copy_inside = omega (arith, sized.count, arena_nodes s d, few_nodes s l reads)
 
-      copy_is : copied ≡ masks ++ drop (length masks) buffer
-      copy_is = ap (λ (p : Page). p.bytes) (wrote ∙ written masks buffer (omega (arith, few)))
+      pub copy_count : length (take (length masks) buffer) ≡ length masks
+      copy_count = let h = copy_inside in rw length-take (omega arith)
 
-      pub copy_inside : n ≤ length copied
-      copy_inside = rw (copy_is, length-append masks (drop (length masks) buffer)) (omega arith)
-
-      copy_front : take n copied ≡ masks
-      copy_front = rw (copy_is, en) (take-append_seam masks (drop (length masks) buffer))
-
-      pub copy_count : n ≡ length (take n copied)
-      copy_count = en ∙ sym (ap length copy_front)
-
-      pub copy_left : length t ≡ length (take n copied) → PrunedIn s l (closed_body P ps) (take n copied) t
-          → take (length masks) (t ++ drop n copied) ≡ (left_of s ps [] masks).masks
-      copy_left e x =
-          let q : length masks ≡ length t = sym (e ∙ ap length copy_front) in
-          rw q (take-append_seam t (drop n copied)) ∙ left_is t (rw copy_front at x)
+    pub copy_left : (copied t rest : List ℕ) → copied ≡ masks → length t ≡ length copied → PrunedIn s l (closed_body P ps) copied t
+        → take (length masks) (t ++ rest) ≡ (left_of s ps [] masks).masks
+    copy_left copied t rest c e x =
+        let q : length masks ≡ length t = sym (e ∙ ap length c) in
+        rw q (take-append_seam t rest) ∙ left_is t (rw c at x)
 
 pub ruleset closing_arrays = (rules, closed_room, closed_inside, closed_count, closed_pruned)
 

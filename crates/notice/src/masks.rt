@@ -18,7 +18,6 @@ use reader::reading::Layout;
 use sheet::form::part;
 use sheet::limits::MOST_POSITIONS;
 use sheet::moves::first_lines;
-use text::bytes::put_text;
 use walk::level::level_at;
 
 // Pruned over the arrays of a sheet that was read, p being its P body or one with more positions closed.
@@ -54,7 +53,7 @@ pub(crate) fn left_masks(sheet: &[u8], l: Layout, notice: &[u8], masks: &[u8], l
     ensures { take (length masks.now) left.new
         ≡ (left_of sheet.now notice.now [] masks.now).masks }
 {
-    let n = masks.len();
-    put_text(left, 0, masks);
-    prune_closed(sheet, l, notice, &mut left[..n]);
+    let front = &mut left[..masks.len()];
+    front.copy_from_slice(masks);
+    prune_closed(sheet, l, notice, front);
 }

@@ -2,17 +2,14 @@
 use Rattle.notice.proofs.LeftLaws.{leaving_masks}
 use Rattle.notice.proofs.masks.left_masks.Goals as goal
 
-pub put_text-requires : goal.put_text-requires
-put_text-requires c = search leaving_masks
+pub slice_bounds-front-end : goal.slice_bounds-front-end
+slice_bounds-front-end c = search leaving_masks
 
-pub prune_closed-requires : goal.prune_closed-requires
-prune_closed-requires c = search leaving_masks
+pub slice_bounds-front-end-2 : goal.slice_bounds-front-end-2
+slice_bounds-front-end-2 c = search leaving_masks
+
+pub copy_from_slice-requires : goal.copy_from_slice-requires
+copy_from_slice-requires c = search leaving_masks
 
 pub returns : goal.returns
 returns c = search leaving_masks
-
-pub slice_bounds-prune_closed-end : goal.slice_bounds-prune_closed-end
-slice_bounds-prune_closed-end c = search leaving_masks
-
-pub slice_bounds-prune_closed-end-2 : goal.slice_bounds-prune_closed-end-2
-slice_bounds-prune_closed-end-2 c = search leaving_masks
