@@ -3,7 +3,7 @@ use Prim.Native.Nat.{ℕ, ◌≤◌, ◌<◌}
 use mathlib.Core.Path.{◌≡◌}
 use mathlib.Core.List.{List}
 use native.Mathlib.Omega.{arith}
-use lib.ListN.{length, take}
+use lib.ListN.{length}
 use borrow.Author.Rules.{rules}
 use borrow.Author.Tests.{lt-ltb, le-ltb}
 use Rattle.theory.specs.Answer.{refused, on_accepted}
@@ -12,10 +12,11 @@ use Rattle.sheet.specs.declared.refusal.Refusal.{Refusal}
 use Rattle.reader.specs.declared.reading.Reading.{Reading}
 use Rattle.reader.specs.declared.reading.Reading.TheVariants.{Refused}
 use Rattle.reader.proofs.Accepted.{read_accepted, read_refused}
-use Rattle.text.specs.Page.{Page, page, puts}
+use Rattle.text.specs.Page.{Page, puts, Writes}
 use Rattle.text.specs.Lines.{refused_line}
 use Rattle.text.proofs.Page.{place_within}
 use Rattle.solver.specs.Solving.{solve_answer, masks_left, ranks_left}
+use Rattle.io.specs.Counts.{IsPrefixLen}
 use Rattle.lister.specs.Listing.{most_input, solved_text, text_with, masks_with, ranks_with}
 use Rattle.lister.proofs.SolvedLaws.{part_count}
 
@@ -67,16 +68,11 @@ module _ (s : List ℕ) (r : Reading) (told : reading_means r ≡ read_answer s)
     refused_ranks n b = solved_ranks s h n b (rw (refused_solved n (length b)))
 
 -- the place after any text that began at 0
-pub within : (t l l' : List ℕ) (r : ℕ) → page l' r ≡ puts (page l 0) t → r ≤ length l'
-within t l l' r e = place_within t l l' 0 r (omega arith) e
-
-pub within_part : (t l l' : List ℕ) (r : ℕ) → page l' r ≡ puts (page l 0) t → r ≡ length (take r l')
-within_part t l l' r e = part_count r l' (within t l l' r e)
+pub within_parts : (t l l' : List ℕ) (r : ℕ) → Writes l 0 t l' r → IsPrefixLen r l'
+within_parts t l l' r e = let h = place_within t l l' 0 r (omega arith) e in (h, part_count r l' h)
 
 pub ruleset long = (rules, long_text, long_masks, long_ranks)
 
 pub ruleset refusing = (rules, refused_text, refused_masks, refused_ranks)
 
 pub ruleset accepting = (rules, read_accepted, solved_text_lem, solved_masks, solved_ranks)
-
-pub ruleset placing = (rules, within, within_part)

@@ -22,36 +22,37 @@ use Rattle.reader.specs.declared.reading.Layout.{Layout}
 use Rattle.reader.proofs.Accepted.{read_is, ranges}
 use Rattle.reader.proofs.Legality.{legal_game}
 use Rattle.sheet.proofs.SizeLaws.{power_bound}
-use Rattle.text.specs.Page.{Page, puts}
+use Rattle.text.specs.declared.buffer.Page.{Page}
+use Rattle.text.specs.Page.{Puts}
 use Rattle.text.specs.Lines.{start_lines}
 use Rattle.region.specs.code.Flags.{flag_with, flags_count, flags_after}
 use Rattle.region.proofs.FlagLaws.{words_counted, flags_final}
 use Rattle.lister.specs.code.Parts.{flags_in, starts_by}
 
--- n flags stand in the buffer fs, which was b
+-- n flags stand in the buffer fs, which was b of so many entries
 
-module _ (s ranks b : List ℕ) (n : ℕ) (fs : List ℕ) (e : n ≡ flags_count s (length b)) (f : fs ≡ flags_after s ranks b) where
-  flags_counted : n ≡ length (flags_in s ranks (length b))
+module _ (s ranks b : List ℕ) (n room : ℕ) (fs : List ℕ) (e : n ≡ flags_count s room) (f : fs ≡ flags_after s ranks b) (h : length b ≡ room) where
+  flags_counted : n ≡ length (flags_in s ranks room)
   unfolding flags_in
   flags_counted = e ∙ sym (length_tabulate _ 0 _)
 
-  flags_over : fs ≡ over (flags_in s ranks (length b)) b
+  flags_over : fs ≡ over (flags_in s ranks room) b
   unfolding flags_in flags_after
-  flags_over = f
+  flags_over = rw (← h) f
 
   pub count_within : n ≤ length fs
-  count_within = rw flags_over (omega (arith, over_room (flags_in s ranks (length b)) b, flags_counted))
+  count_within = rw flags_over (omega (arith, over_room (flags_in s ranks room) b, flags_counted))
 
   pub count_part : n ≡ length (take n fs)
   count_part = sym (length-take-le n fs count_within)
 
-  flags_front : take n fs ≡ flags_in s ranks (length b)
-  flags_front = rw flags_over (over_first (flags_in s ranks (length b)) b n flags_counted)
+  flags_front : take n fs ≡ flags_in s ranks room
+  flags_front = rw flags_over (over_first (flags_in s ranks room) b n flags_counted)
 
   -- their lines; x and y are the actions and the delay as the code widens them
-  pub words_are : (l : Layout) (p : Page) {q : Page} {x y : ℕ} → x ≡ l.actions → y ≡ l.delay → q ≡ puts p (start_lines x ((y + 1) / 2) (take n fs))
-      → q ≡ puts p (starts_by l (flags_in s ranks (length b)))
-  words_are l p g h z = rw (g, h, flags_front) at z
+  pub words_are : (l : Layout) {p q : Page} {x y : ℕ} → x ≡ l.actions → y ≡ l.delay → Puts p (start_lines x ((y + 1) / 2) (take n fs)) q
+      → Puts p (starts_by l (flags_in s ranks room)) q
+  words_are l g h z = rw (g, h, flags_front) at z
 
 pub ruleset words_laws = (rules, count_within, count_part, words_are)
 

@@ -1,30 +1,10 @@
--- `list` meets its contract. Assumes nothing.
-use Rattle.lister.proofs.InputLaws.{long, refusing, accepting, placing}
+-- `list` meets its contract: the place after a text is within the buffer. Assumes nothing.
+use lib.ListN.{length}
+use borrow.Author.Rules.{rules}
+use Rattle.lister.specs.Listing.{text_with}
+use Rattle.lister.proofs.InputLaws.{within_parts}
 use Rattle.lister.proofs.list.Goals as goal
 
-pub returns-then-sheet-gt-MOST_INPUT : goal.returns-then-sheet-gt-MOST_INPUT
-returns-then-sheet-gt-MOST_INPUT c = record { text = search long; counts = search placing; masks = search long; ranks = search long }
-
-pub returns-in_default : goal.returns-in_default
-returns-in_default c = record { text = search refusing; counts = search placing; masks = search refusing; ranks = search refusing }
-
-pub returns : goal.returns
-returns c = record { text = search accepting; counts = search placing; masks = search accepting; ranks = search accepting }
-
-pub put_refused-requires : goal.put_refused-requires
-put_refused-requires c = search accepting
-
-pub read-reading-requires : goal.read-reading-requires
-read-reading-requires c = search accepting
-
-pub refusal_number-requires : goal.refusal_number-requires
-refusal_number-requires c = search accepting
-
-pub wide-requires : goal.wide-requires
-wide-requires c = search accepting
-
-pub put_refused-requires-in_default : goal.put_refused-requires-in_default
-put_refused-requires-in_default c = search accepting
-
-pub put_game-requires : goal.put_game-requires
-put_game-requires c = search accepting
+pub returns-clause-counts : goal.returns-clause-counts
+returns-clause-counts c =
+    within_parts (text_with c.args.sheet.now (length c.args.masks.now) (length c.args.ranks.now)) c.args.out.now _ _ (search rules)

@@ -1,6 +1,7 @@
 -- `put_game` meets its contract. Assumes nothing.
 use native.Mathlib.Omega.{arith}
 use Rattle.lister.proofs.SolvedLaws.{solving, few_positions, lost_text_lem}
+use borrow.Author.Rules.{rules}
 use Rattle.lister.proofs.put_game.Goals as goal
 
 pub overflow_cast-positions : goal.overflow_cast-positions
@@ -8,29 +9,11 @@ overflow_cast-positions c = omega (arith, few_positions _ _ c.requires)
 
 pub returns-in-Losing-clause-text : goal.returns-in-Losing-clause-text
 returns-in-Losing-clause-text c =
-    lost_text_lem _ c.args.masks.now c.args.ranks.now _ _ _ c.requires _ c.in-Losing.is c.solve-solution.ensures.answer _ _
-    c.nodes_at-nodes-in-Losing.ensures.0 c.solve-solution.ensures.ranks _ c.put_lost.ensures
-
-pub solve-solution-requires : goal.solve-solution-requires
-solve-solution-requires c = search solving
-
-pub wide-requires : goal.wide-requires
-wide-requires c = search solving
-
-pub put_refused-requires : goal.put_refused-requires
-put_refused-requires c = search solving
-
-pub nodes_at-nodes-requires : goal.nodes_at-nodes-requires
-nodes_at-nodes-requires c = search solving
-
-pub put_won-requires : goal.put_won-requires
-put_won-requires c = search solving
-
-pub nodes_at-nodes-requires-in-Losing : goal.nodes_at-nodes-requires-in-Losing
-nodes_at-nodes-requires-in-Losing c = search solving
-
-pub put_lost-requires : goal.put_lost-requires
-put_lost-requires c = search solving
+    record {
+      same_reference = search rules;
+      text = lost_text_lem _ c.args.masks.now c.args.ranks.now _ _ _ c.requires _ c.in-Losing.is c.solve-solution.ensures.answer _ _
+      c.nodes_at-nodes-in-Losing.ensures.0 c.solve-solution.ensures.ranks _ c.put_lost.ensures.text;
+    }
 
 pub returns-in-Refused : goal.returns-in-Refused
 returns-in-Refused c = search solving
