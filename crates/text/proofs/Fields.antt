@@ -2,9 +2,9 @@
 -- fields are. Assumes nothing.
 use Prim.Native.Nat.{ℕ, zero, suc, ◌+◌, ◌-◌, ◌*◌, ◌/◌, ◌%◌, ◌^◌, ◌≤◌, ◌<◌}
 use mathlib.Core.Path.{◌≡◌, refl, sym, ap, ◌∙◌}
-use mathlib.Core.Bool.{Bool, true, false, cond}
+use mathlib.Core.Bool.{true, false, cond}
 use mathlib.Core.Logic.{⊎_elim}
-use mathlib.Core.List.{List, [], ◌∷◌, ◌++◌}
+use mathlib.Core.List.{List, [], ◌∷◌}
 use native.Mathlib.Omega.{arith}
 use native.Mathlib.Numerals.{add-one}
 use native.Mathlib.Nat.{pow-suc, pow-zero, pow-succ', one-le-pow, mul-zero, mul-pos, mul_assoc}
@@ -12,13 +12,12 @@ use native.Mathlib.Nat.{div-one, div-zero, div-add-mod', div-lt_iff_lt-mul, div-
 use native.Mathlib.Nat.{mod-zero, zero-mod, mod-lt, mod-eq_of_lt, mod-mod_of_dvd, mul-add-mod_self_right, dvd-mul_left}
 use lib.Dec.{eqb, eqb-suc-zero}
 use lib.ListN.{length, length-append}
-use borrow.Author.Rules.{rules}
-use borrow.Author.Tests.{lt-ltb, le-ltb, eq-eqb, ne_eqb}
+use borrow.Author.Tests.{lt-ltb, le-ltb}
 use Rattle.theory.proofs.Fold.{below?, bool}
 use Rattle.theory.specs.Words.{digit}
 use Rattle.theory.specs.Table.{bit}
 use Rattle.text.specs.Ascii.{ascii}
-use Rattle.text.specs.Page.{Page, puts, texts_from}
+use Rattle.text.specs.Page.{texts_from}
 use Rattle.text.specs.Numbers.{glyph, decimal_of}
 use Rattle.text.specs.Fields.{digit_text, word_text, action_text, set_text, field_text, position_text, node_text}
 use Rattle.text.proofs.Page.{writing, texts_same, length_texts}

@@ -1,5 +1,5 @@
 -- Laws of specs/Page.antt: writing composes, and a text that fits stands whole on the page. Assumes nothing.
-use Prim.Native.Nat.{ℕ, zero, suc, ◌+◌, ◌-◌, ◌*◌, ◌≤◌, ◌<◌}
+use Prim.Native.Nat.{ℕ, zero, suc, ◌+◌, ◌*◌, ◌≤◌, ◌<◌}
 use mathlib.Core.Path.{◌≡◌, refl, sym, ap, ◌∙◌}
 use mathlib.Core.Logic.{⊎_elim}
 use mathlib.Core.List.{List, [], ◌∷◌, ◌++◌, append_assoc}
@@ -9,7 +9,6 @@ use native.Mathlib.Numerals.{add-one}
 use native.Mathlib.Nat.{suc-mul}
 use lib.ListN.{length, take, drop, set, get_or, length-set, length-append, length-take}
 use lib.Seq.{sets, sets-eq, drop-cons, drop-length}
-use borrow.Author.Rules.{rules}
 use borrow.Author.Tests.{lt-ltb, le-ltb}
 use Rattle.theory.proofs.Fold.{below?}
 use Rattle.text.specs.declared.buffer.Page as lent
@@ -186,10 +185,10 @@ pub entry_next : {T : Type 0} (f : ℕ → T → List ℕ) (xs : List T) (k : �
 entry_next f xs k x {p} h i e g =
     let j : 0 + length (take k xs) ≡ k = rw length-take (omega arith) in
     let n : texts_of f 0 (take (k + 1) xs) ≡ texts_of f 0 (take k xs) ++ f k x =
-        ap (texts_of f 0) (take_more xs k x h ∙ ap (λ y. take k xs ++ (y ∷ [])) (sym i)) ∙ texts_of_more f (take k xs) 0 x ∙ ap (λ i. texts_of f 0 (take k xs) ++ f i x) j in
+    ap (texts_of f 0) (take_more xs k x h ∙ ap (λ y. take k xs ++ (y ∷ [])) (sym i)) ∙ texts_of_more f (take k xs) 0 x ∙ ap (λ i. texts_of f 0 (take k xs) ++ f i x) j in
     record {
       same_reference = g.same_reference ∙ e.same_reference;
-      text = after (held p) (texts_of f 0 (take k xs)) (f k x) e.text g.text ∙ ap (puts (held p)) (sym n)
+      text = after (held p) (texts_of f 0 (take k xs)) (f k x) e.text g.text ∙ ap (puts (held p)) (sym n);
     }
 
 -- as the code asks them: what was written is one text

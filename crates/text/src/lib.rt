@@ -7,4 +7,3 @@ pub mod buffer; // a lent buffer with a place in it
 pub mod bytes; // bytes, slices and numbers of two bytes
 pub mod digits; // decimal numbers, words and sets of actions
 pub mod listing; // the lines of the listing
-

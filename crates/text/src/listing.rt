@@ -7,8 +7,8 @@ ghost use Rattle.text.specs.Fields.{field_text, position_text, node_text};
 ghost use Rattle.text.specs.Lines.{field_line, refused_line, losing_line, winning_line, head_line, start_line, allow_line, rank_line};
 ghost use Rattle.text.specs.Lines.{start_lines, allow_lines, rank_lines};
 
-use super::digits::{Form, without_last};
 use super::buffer::Page;
+use super::digits::{Form, without_last};
 
 impl Page<'_> {
     fn put_field(&mut self, name: &[u8], n: usize)

@@ -75,7 +75,11 @@ pub fn put_rank_sheet(out: &mut [u8], h: &[u8], ranks: &[u16]) -> usize
         (written_sheet width (rank_bytes h.now ranks.now)) out.new result }
 {
     let mut page = Page { out, at: 0 };
-    if h.len().saturating_add(ranks.len()).saturating_add(ranks.len()) <= RANK_ROOM {
+    if h.len()
+        .saturating_add(ranks.len())
+        .saturating_add(ranks.len())
+        <= RANK_ROOM
+    {
         put_ranks(&mut page, h, ranks);
     }
     page.at
