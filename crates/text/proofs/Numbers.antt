@@ -46,12 +46,6 @@ decimal_more n h =
     by_more n n h
     ∙ ap (λ t. t ++ (glyph (n % 10) ∷ [])) (by_any n (suc (n / 10)) (n / 10) (omega arith) (omega arith))
 
--- bytes
-
-pub bytes_two : (n : ℕ) → bytes_of 2 n ≡ n % 256 ∷ n / 256 % 256 ∷ []
-unfolding bytes_of
-bytes_two n = refl
-
 -- lengths
 
 pub length_decimal : (n k : ℕ) → n < 10 ^ suc k → length (decimal_of n) ≤ suc k

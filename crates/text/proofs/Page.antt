@@ -14,14 +14,10 @@ use Rattle.theory.proofs.Fold.{below?}
 use Rattle.text.specs.declared.buffer.Page as lent
 use Rattle.text.specs.Page.{Page, page, put, puts, held, Puts, texts_from, texts_of}
 
--- a byte with room for it, and one without
+-- a byte with room for it
 pub byte_in : (l : List ℕ) (n b : ℕ) → n < length l → page (set l n b) (n + 1) ≡ puts (page l n) (b ∷ [])
 unfolding put puts
 byte_in l n b h = simp (lt-ltb n (length l) h)
-
-pub byte_out : (l : List ℕ) (n b : ℕ) → length l ≤ n → page l n ≡ puts (page l n) (b ∷ [])
-unfolding put puts
-byte_out l n b h = simp (le-ltb n (length l) h)
 
 pub puts_nil : (p : Page) → puts p [] ≡ p
 unfolding puts
@@ -193,28 +189,6 @@ entry_next f xs k x {p} h i e g =
 
 -- as the code asks them: what was written is one text
 pub ruleset writing = (puts_nil, puts_append, texts_none, texts_next, texts_of_none, take_next)
-
--- a list is its bytes, one after the other
-
-unfoldable pub byte_at : List ℕ → ℕ → List ℕ
-byte_at t k = get_or t k 0 ∷ []
-
-byte_at_lem : (t : List ℕ) (k : ℕ) → k < length t → byte_at t k ++ drop (suc k) t ≡ drop k t
-unfolding byte_at
-byte_at_lem t k h = sym (drop-cons t k 0 h)
-
-bytes_from : (t : List ℕ) (k n : ℕ) → k + n ≡ length t → texts_from (byte_at t) k n ≡ drop k t
-bytes_from t k zero e = let q : k ≡ length t = omega arith in texts_none (byte_at t) k ∙ rw q (sym (drop-length t))
-bytes_from t k (suc n) e =
-    texts_suc (byte_at t) k n
-    ∙ ap (λ s. byte_at t k ++ s) (bytes_from t (suc k) n (omega arith))
-    ∙ byte_at_lem t k (omega arith)
-
-pub bytes_all : (t : List ℕ) → texts_from (byte_at t) 0 (length t) ≡ t
-bytes_all t = bytes_from t 0 (length t) (omega arith)
-
-pub text_is : (t : List ℕ) (p : Page) {q : Page} → q ≡ puts p (texts_from (byte_at t) 0 (length t)) → q ≡ puts p t
-text_is t p e = e ∙ ap (puts p) (bytes_all t)
 
 -- lengths
 
