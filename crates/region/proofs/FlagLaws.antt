@@ -4,7 +4,8 @@ use mathlib.Core.Path.{◌≡◌, refl, sym, ◌∙◌, ap, fun_ext}
 use mathlib.Core.Bool.{Bool, true, false, cond}
 use mathlib.Core.List.{List, ◌++◌}
 use native.Mathlib.Omega.{arith}
-use lib.ListN.{length, take, drop, set, length-append, length-drop}
+use mir.Val.{bool_byte as from_bool}
+use lib.ListN.{length, take, drop, length-append, length-drop}
 use lib.Seq.{get_or-take, length-take-le}
 use borrow.Author.Rules.{rules}
 use borrow.Author.Tests.{le-leb, lt-leb}
@@ -19,13 +20,12 @@ use Rattle.sheet.specs.Form.{part_at}
 use Rattle.sheet.specs.Bodies.{positions_body, start_of, delay_of}
 use Rattle.reader.specs.code.Laid.{grid_at}
 use Rattle.reader.specs.Reading.{read_answer}
-use Rattle.reader.specs.Reading as reading
+use Rattle.sheet.specs.Refusals.{answer_of}
 use Rattle.sheet.specs.SheetGame.{game_of}
 use Rattle.sheet.specs.code.Arrays.{view_of, firsts_of, bodies_game}
 use Rattle.sheet.specs.declared.refusal.Refusal.{Refusal}
 use Rattle.reader.specs.declared.reading.Layout.{Layout}
-use Rattle.reader.specs.declared.reading.Reading.{Reading}
-use Rattle.reader.specs.declared.reading.Reading.TheVariants.{Accepted, Refused}
+use Rattle.std.proofs.Common.{Result, Ok, Err}
 use Rattle.reader.proofs.Accepted.{read_is, ranges, carries}
 use Rattle.reader.proofs.Legality.{controller_inside, legal_game}
 use Rattle.walk.specs.declared.level.Level.{Level}
@@ -36,42 +36,19 @@ use Rattle.theory.specs.Buffer.{over}
 use Rattle.region.specs.code.Flags.{flag_with, count_in, flags_count, flags_after}
 use Rattle.region.proofs.GoodLaws.{good_is, words_is}
 use Rattle.region.proofs.ReadLaws.{game_read, is_level, sized_read}
-use Rattle.sheet.specs.Limits.{most_positions, most_actions, most_nodes}
+use Rattle.sheet.specs.Limits.{most_positions}
 
--- one flag
+-- one flag is a test as a number
 
-module _ (p : List ℕ) (g : List (List ℕ)) (l : Level) (ranks : List ℕ) (v : ℕ) {r : Bool} (e : r ≡ good_in p g l ranks v) where
-  pub flag_good : r ≡ true → 1 ≡ flag_by (good_in p g l ranks) v
-  unfolding flag_by
-  flag_good t = rw (← e, t)
+pub flag_from : (good : ℕ → Bool) (v : ℕ) {r : Bool} {x : ℕ} → r ≡ good v → x ≡ from_bool r → x ≡ flag_by good v
+unfolding flag_by
+flag_from good v {r} {x} e q = q ∙ ap from_bool e ∙ by (good v)
+  where
+    by : (b : Bool) → from_bool b ≡ cond b 1 0
+    by true = refl
+    by false = refl
 
-  pub flag_bad : r ≡ false → 0 ≡ flag_by (good_in p g l ranks) v
-  unfolding flag_by
-  flag_bad t = rw (← e, t)
-
-pub ruleset a_flag = (rules, flag_good, flag_bad)
-
--- the loop over the words; n is their number
-
-module _ (p : List ℕ) (g : List (List ℕ)) (l : Level) (ranks before : List ℕ) where
-  abbrev entry : ℕ → ℕ
-  entry = flag_by (good_in p g l ranks)
-
-  pub flags_start : before ≡ filled entry 0 before
-  flags_start = filled_none entry before
-
-  pub flags_again : (v : ℕ) {n x : ℕ} {m : List ℕ} → m ≡ filled entry v before → length before ≡ first_words l → n ≡ first_words l → v < n → x ≡ entry v
-      → set m v x ≡ filled entry (v + 1) before
-  flags_again v e h i k q = filled_more entry before v e (omega arith) q
-
-  pub flags_word : (v : ℕ) {n : ℕ} → n ≡ first_words l → v < n → v < first_words l
-  flags_word v e h = rw e at h
-
-  pub flags_done : (v : ℕ) {n : ℕ} {m : List ℕ} → m ≡ filled entry v before → length before ≡ first_words l → n ≡ first_words l → v ≤ n → n ≤ v
-      → m ≡ tabulate entry 0 (first_words l)
-  flags_done v e h i k j = filled_done entry before v (first_words l) e h (omega arith) (omega arith)
-
-pub ruleset all_flags = (rules, flags_start, flags_again, flags_word, flags_done)
+pub ruleset all_flags = (rules, filled_none, filled_more, filled_done, flag_from)
 
 -- a sheet's flags
 
@@ -79,8 +56,8 @@ none_written : (s ranks b : List ℕ) → flags_count s (length b) ≡ 0 → b �
 unfolding flags_after over
 none_written s ranks b e = rw (e, tabulate_zero (flag_with (game_of s) (delay_of s) ranks) 0)
 
-module _ (s : List ℕ) (rd : Reading) (e : reading.reading_means rd ≡ read_answer s) where
-  module _ (x : Refusal) (a : rd ≡ Refused x) where
+module _ (s : List ℕ) (rd : Result Layout Refusal) (e : answer_of rd ≡ read_answer s) where
+  module _ (x : Refusal) (a : rd ≡ Err x) where
     pub refused_count : (room : ℕ) → 0 ≡ flags_count s room
     unfolding flags_count count_in
     refused_count room = rw (← e, a)
@@ -88,19 +65,13 @@ module _ (s : List ℕ) (rd : Reading) (e : reading.reading_means rd ≡ read_an
     pub refused_flags : (ranks b : List ℕ) → b ≡ flags_after s ranks b
     refused_flags ranks b = none_written s ranks b (sym (refused_count (length b)))
 
-  module _ (l : Layout) (a : rd ≡ Accepted l) (p : List ℕ) (ep : p ≡ part_at s l.positions) (v : Level)
+  module _ (l : Layout) (a : rd ≡ Ok l) (p : List ℕ) (ep : p ≡ part_at s l.positions) (v : Level)
       (made : v ≡ level_to (length p) l.start l.actions l.delay) where
     is : v ≡ level_at (length p) l.start l.actions l.delay
     is = is_level s rd e l a p ep v made
 
     answered : read_answer s ≡ accepted l
-    answered = sym e ∙ ap reading.reading_means a
-
-    pub few_words_read : v.words ≤ most_nodes
-    few_words_read = (sized_read s rd e l a p ep v made).few_words
-
-    pub few_actions_read : v.actions ≤ most_actions
-    few_actions_read = (sized_read s rd e l a p ep v made).few_actions
+    answered = sym e ∙ ap answer_of a
 
     pub start_read : v.start < most_positions
     start_read =
@@ -173,7 +144,7 @@ module _ (s : List ℕ) (rd : Reading) (e : reading.reading_means rd ≡ read_an
         written = ap (λ x. t ++ drop x b) (sym t_length) ∙ ap (λ (x : List ℕ). x ++ drop (length x) b) t_is
 
 pub ruleset flagging =
-    (rules, refused_count, refused_flags, sized_read, few_words_read, few_actions_read, start_read, small_count, small_flags, whole_count, front_flags, front_count, flags_length, written)
+    (rules, refused_count, refused_flags, sized_read, start_read, small_count, small_flags, whole_count, front_flags, front_count, flags_length, written)
 
 -- by ranks whose front is the final ranks the flags are theory's
 

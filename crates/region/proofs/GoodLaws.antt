@@ -33,37 +33,10 @@ use mathlib.Core.Logic.{⊎_elim}
 use Rattle.theory.proofs.Pending.{odd_delay, even_delay}
 use Rattle.theory.specs.Strategy.{initial_length}
 
--- kept nodes: r is the answer on the side
-
-module _ (p : List ℕ) (l : Level) (ranks : List ℕ) (k : ℕ) {r : Bool} (e : r ≡ on_right l.odd (controller_at p) (k / l.words)) where
-  pub kept_wrong : not r ≡ true → false ≡ kept_by (on_side p l) ranks k
-  unfolding kept_by on_side
-  kept_wrong n = sym (both_none _ _ (sym e ∙ not-true r n))
-
-  pub kept_past : not r ≡ false → length ranks ≤ k → true ≡ kept_by (on_side p l) ranks k
-  unfolding kept_by on_side fell
-  kept_past n h = sym (both_true _ _ (sym e ∙ not-false r n) (rw (get_or-eq_default ranks 0 h)))
-
-  pub kept_rank : not r ≡ false → eqb (get_or ranks k 0) 0 ≡ kept_by (on_side p l) ranks k
-  unfolding kept_by on_side fell
-  kept_rank n = sym (both_second _ _ (sym e ∙ not-false r n) ∙ not_not (eqb (get_or ranks k 0) 0))
-
-pub ruleset keeping = (rules, kept_wrong, kept_past, kept_rank)
-
 -- first words
-
-pub words_odd : (l : Level) → l.odd ≡ true → l.words * l.actions ≡ first_words l
-unfolding first_words words_on
-words_odd l e = rw e
-
-pub words_even : (l : Level) → l.odd ≡ false → l.words ≡ first_words l
-unfolding first_words words_on
-words_even l e = rw e
 
 pub few_words_fit : {w a : ℕ} → w ≤ most_nodes → a ≤ most_actions → Fits w64 (w * a)
 few_words_fit {w} {a} h k = record { fits = omega (arith, product_small {a = w} {b = a} (omega arith) (omega arith)) }
-
-pub ruleset counting = (rules, words_odd, words_even, few_words_fit)
 
 pub first_words_few : {m : ℕ} {l : Level} → Sized m l → first_words l ≤ most_nodes * most_actions
 unfolding first_words words_on
@@ -90,38 +63,7 @@ odd_fits v s e h =
     let r = mod-lt v s.some_word in
     sum_fits (omega arith) (omega arith) (omega arith)
 
-module _ (p : List ℕ) (g : List (List ℕ)) (l : Level) (ranks : List ℕ) (v : ℕ) where
-  by_parity : {b : Bool} → l.odd ≡ b → good_in p g l ranks v ≡ good_by b (moveless_game p g l) l.words (kept_by (on_side p l) ranks) v
-  unfolding good_in
-  by_parity e = ap (λ b. good_by b (moveless_game p g l) l.words (kept_by (on_side p l) ranks) v) e
-
-  pub good_even : {r : Bool} → not l.odd ≡ true → r ≡ kept_by (on_side p l) ranks (l.start * l.words + v) → r ≡ good_in p g l ranks v
-  unfolding good_by view_of
-  good_even n e = e ∙ sym (by_parity (not-true l.odd n))
-
-  module _ {s : Bool} (n : not l.odd ≡ false) (e : s ≡ safe_at p l.start) where
-    pub good_unsafe : not s ≡ true → false ≡ good_in p g l ranks v
-    unfolding good_by view_of
-    good_unsafe x = sym (by_parity (not-false l.odd n) ∙ both_none _ _ (sym e ∙ not-true s x))
-
-    module _ (t : ℕ) (x : not s ≡ false) (c : unmark t ≡ target_at g l.start (v / l.words)) where
-      reached : good_in p g l ranks v ≡ kept_at (kept_by (on_side p l) ranks) l.words (v % l.words) (unmark t)
-      unfolding good_by view_of
-      reached =
-          by_parity (not-false l.odd n)
-          ∙ both_second _ _ (sym e ∙ not-false s x)
-          ∙ ap (kept_at (kept_by (on_side p l) ranks) l.words (v % l.words)) (sym c)
-
-      pub good_absent : t ≡ absent_mark → false ≡ good_in p g l ranks v
-      unfolding kept_at
-      good_absent z = sym (reached ∙ ap (kept_at (kept_by (on_side p l) ranks) l.words (v % l.words)) (unmark_absent z))
-
-      pub good_odd : {w : ℕ} {r : Bool} → (t ≡ absent_mark → ⊥) → w ≡ t → r ≡ kept_by (on_side p l) ranks (w * l.words + v % l.words)
-          → r ≡ good_in p g l ranks v
-      unfolding kept_at
-      good_odd z d f = (rw d at f) ∙ sym (reached ∙ ap (kept_at (kept_by (on_side p l) ranks) l.words (v % l.words)) (unmark_to z))
-
-pub ruleset goodness = (rules, node_fits, start_fits, even_fits, odd_fits, good_even, good_unsafe, good_absent, good_odd)
+pub ruleset fitting = (rules, node_fits, start_fits, even_fits, odd_fits)
 
 -- a search for a good word
 

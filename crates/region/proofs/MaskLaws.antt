@@ -1,15 +1,15 @@
 -- The masks, as the code of src/masks.rt makes them. Assumes nothing.
-use Prim.Native.Nat.{ℕ, ◌+◌, ◌*◌, ◌^◌, ◌≤◌, ◌<◌}
+use Prim.Native.Nat.{ℕ, ◌+◌, ◌*◌, ◌%◌, ◌^◌, ◌≤◌, ◌<◌}
 use mathlib.Core.Path.{◌≡◌, refl, sym, ◌∙◌, ap}
 use mathlib.Core.Bool.{Bool, true, false, not, cond}
 use mathlib.Core.List.{List}
 use native.Mathlib.Omega.{arith}
-use native.Mathlib.Nat.{pow-suc}
+use native.Mathlib.Nat.{pow-suc, mod-eq_of_lt}
 use native.Mathlib.Numerals.{add-one}
-use mir.Val.{Fits}
-use mir.Syntax.{w8, w64}
+use mir.Val.{Fits, bits}
+use mir.Syntax.{Width}
 use lib.Dec.{ltb}
-use lib.Pow.{pow_mono}
+use lib.Pow.{pow_mono, pow-lt}
 use lib.ListN.{length, set}
 use borrow.Author.Rules.{rules}
 use borrow.Author.Tests.{not-true, not-false}
@@ -20,79 +20,55 @@ use Rattle.walk.specs.declared.level.Level.{Level}
 use Rattle.walk.specs.code.Levels.{arena_of}
 use Rattle.sheet.specs.code.Arrays.{view_of}
 use Rattle.walk.specs.code.Nodes.{Sized, is_sized, is_node}
-use Rattle.walk.specs.code.Walks.{fallen_by}
+use Rattle.walk.specs.code.Walks.{fallen_by, spoilt_answer}
 use Rattle.walk.proofs.NodeLaws.{at_action, sized_level, fitted, level_unfit, buffer_unfit}
 use Rattle.theory.proofs.Filling.{filled, filled_none, filled_more, filled_done}
 use Rattle.region.specs.code.Kept.{on_side, allowed_in, mask_in, masks_in, masks_after}
 use Rattle.region.proofs.GoodLaws.{kept_is}
 use Rattle.sheet.specs.Limits.{most_actions}
 
-pub bit_first : 1 ≡ 2 ^ 0
-bit_first = refl
+-- the bit of action c, as code shifts it in a number of m values
 
-pub bit_next : (c : ℕ) {b : ℕ} → b ≡ 2 ^ c → b * 2 ≡ 2 ^ (c + 1)
-bit_next c {b} e = rw (add-one c, pow-suc 2 c, e)
+pub bit_shifted : (c : ℕ) {a m : ℕ} → c < a → a ≤ most_actions → 2 ^ most_actions ≤ m → 1 * 2 ^ c % m ≡ 2 ^ c
+bit_shifted c {a} {m} h l w =
+    let i : c < most_actions = omega arith in
+    let o : 2 ^ c < 2 ^ most_actions = pow-lt i in
+    let e : 1 * 2 ^ c ≡ 2 ^ c = omega arith in
+    rw e (mod-eq_of_lt (omega arith))
 
-pub bit_small : (c : ℕ) {b : ℕ} → b ≡ 2 ^ c → c ≤ most_actions → b ≤ 2 ^ most_actions
-bit_small c e h = rw e (pow_mono h)
+-- the mask of the actions below c that pass a test; with the next one's bit, b, and without it
 
-pub bit_fits : (c a : ℕ) {b : ℕ} → b ≡ 2 ^ c → c < a → a ≤ most_actions → Fits w64 (b * 2)
-bit_fits c a q h l = let r = bit_small c q (omega arith) in record { fits = omega arith }
+module _ (p : ℕ → Bool) (c : ℕ) {m : ℕ} (e : m ≡ mask_below p c) where
+  pub mask_set : {s b : ℕ} → s ≡ m + b → b ≡ 2 ^ c → p c ≡ true → s ≡ mask_below p (c + 1)
+  mask_set {s} {b} i q t = i ∙ sym (mask_next p c ∙ rw (t, ← e, ← q))
 
--- the bits of the first c actions
-unfoldable pub allowed_below : Arena → ℕ → List ℕ → ℕ → ℕ → ℕ
-allowed_below E n ranks k c = mask_below (λ a. not (spoilt_by E (fallen_by n ranks) k a)) c
+  pub mask_kept : {s : ℕ} → s ≡ m → p c ≡ false → s ≡ mask_below p (c + 1)
+  mask_kept {s} i t = let o : m + 0 ≡ m = omega arith in i ∙ sym (mask_next p c ∙ rw (t, ← e, o))
 
-module _ (E : Arena) (n : ℕ) (ranks : List ℕ) (k : ℕ) where
-  pub bits_start : 0 ≡ allowed_below E n ranks k 0
-  unfolding allowed_below
-  bits_start = mask_first _
-
-  bits_suc : (c : ℕ) → allowed_below E n ranks k (c + 1) ≡ allowed_below E n ranks k c + cond (not (spoilt_by E (fallen_by n ranks) k c)) (2 ^ c) 0
-  unfolding allowed_below
-  bits_suc c = mask_next _ c
-
-  pub bits_small : (c : ℕ) {m : ℕ} → m ≡ allowed_below E n ranks k c → c ≤ most_actions → m < 2 ^ most_actions
-  unfolding allowed_below
-  bits_small c {m} e h =
-      let p : 2 ^ c ≤ 2 ^ most_actions = pow_mono h in
-      omega (arith, mask_lt (λ a. not (spoilt_by E (fallen_by n ranks) k a)) c)
-
-  -- sums and the byte fit
-
-  pub add_fits : (c a : ℕ) {m b : ℕ} → m ≡ allowed_below E n ranks k c → b ≡ 2 ^ c → c < a → a ≤ most_actions → Fits w64 (m + b)
-  add_fits c a {m} {b} e q h l =
-      let p = bits_small c e (omega arith) in
-      let r = bit_small c q (omega arith) in
+  -- the next bit fits too, into a byte and more
+  pub mask_fits : {w : Width} {a b : ℕ} → most_actions ≤ bits w → b ≡ 2 ^ c → c < a → a ≤ most_actions → Fits w (m + b)
+  mask_fits {w} {a} {b} v q h l =
+      let n = mask_lt p c in
+      let j : c + 1 ≤ bits w = omega arith in
+      let o : 2 ^ (c + 1) ≤ 2 ^ bits w = pow_mono j in
+      let r : 2 ^ (c + 1) ≡ 2 ^ c * 2 = rw (add-one c, pow-suc 2 c) in
       record { fits = omega arith }
-
-  pub mask_fits : (c a : ℕ) {m : ℕ} → m ≡ allowed_below E n ranks k c → c ≤ a → a ≤ most_actions → Fits w8 m
-  mask_fits c a e h l = let p = bits_small c e (omega arith) in record { fits = omega arith }
 
 module _ (p : List ℕ) (g : List (List ℕ)) (u f : List ℕ) (l : Level) (n : ℕ) (ranks : List ℕ) (k : ℕ) where
   abbrev here : Arena
   here = arena_of p g u f l
 
+  abbrev allowed_at : ℕ → Bool
+  allowed_at c = not (spoilt_by here (fallen_by n ranks) k c)
+
   -- what the walk answers at action c of a node that exists
-  abbrev Answered : ℕ → Bool → Type 0
-  Answered c r = r ≡ both (is_node (length p) l k) (both (ltb c l.actions) (spoilt_by here (fallen_by n ranks) k c))
+  pub allowed_is : (c : ℕ) {r : Bool} → Sized (length p) l → k < l.nodes → c < l.actions → r ≡ spoilt_answer p g u f l ranks n k c
+      → not r ≡ allowed_at c
+  allowed_is c z h a e = ap not (at_action (length p) l k c z h a e)
 
-  -- an action that is not spoilt adds its bit b
-
-  pub bits_set : (c : ℕ) {m b s : ℕ} {r : Bool} → Sized (length p) l → k < l.nodes → c < l.actions → s ≡ m + b
-      → m ≡ allowed_below here n ranks k c → b ≡ 2 ^ c → Answered c r → not r ≡ true → s ≡ allowed_below here n ranks k (c + 1)
-  bits_set c {m} {b} {s} {r} z h a i e q f x =
-      i ∙ sym (bits_suc here n ranks k c ∙ rw (← at_action (length p) l k c z h a f, x, ← e, ← q))
-
-  pub bits_kept : (c : ℕ) {m s : ℕ} {r : Bool} → Sized (length p) l → k < l.nodes → c < l.actions → s ≡ m
-      → m ≡ allowed_below here n ranks k c → Answered c r → not r ≡ false → s ≡ allowed_below here n ranks k (c + 1)
-  bits_kept c {m} {s} {r} z h a i e f x =
-      let o : m + 0 ≡ m = omega arith in
-      i ∙ sym (bits_suc here n ranks k c ∙ rw (← at_action (length p) l k c z h a f, x, ← e, o))
-
-  pub bits_done : (c : ℕ) {m : ℕ} → c ≤ l.actions → l.actions ≤ c → m ≡ allowed_below here n ranks k c → m ≡ allowed_in here n ranks k
-  unfolding allowed_below allowed_in arena_of view_of
-  bits_done c {m} h j e = mask_done _ h j e
+  pub allowed_done : (c : ℕ) {m : ℕ} → c ≤ l.actions → l.actions ≤ c → m ≡ mask_below allowed_at c → m ≡ allowed_in here n ranks k
+  unfolding allowed_in arena_of view_of
+  allowed_done c {m} h j e = mask_done _ h j e
 
   pub mask_lost : {r : Bool} → r ≡ kept_by (on_side p l) ranks k → not r ≡ true → 0 ≡ mask_in here n ranks k
   unfolding mask_in
@@ -102,8 +78,6 @@ module _ (p : List ℕ) (g : List (List ℕ)) (u f : List ℕ) (l : Level) (n : 
   unfolding mask_in
   mask_stands {r} {m} e x q = q ∙ rw (← kept_is p g u f l ranks k, ← e, not-false r x)
 
-pub ruleset bits = (rules, bits_start, bit_first, bits_done, add_fits, bit_fits, mask_fits)
-
 pub ruleset a_mask = (rules, mask_lost, mask_stands)
 
 -- the loop over the nodes
@@ -111,13 +85,6 @@ pub ruleset a_mask = (rules, mask_lost, mask_stands)
 module _ (p : List ℕ) (g : List (List ℕ)) (u f : List ℕ) (l : Level) (n : ℕ) (ranks before : List ℕ) where
   abbrev entry : ℕ → ℕ
   entry = mask_in (arena_of p g u f l) n ranks
-
-  pub masks_start : before ≡ filled entry 0 before
-  masks_start = filled_none entry before
-
-  pub masks_again : (k : ℕ) {m : List ℕ} {v : ℕ} → m ≡ filled entry k before → length before ≡ l.nodes → k < l.nodes → v ≡ entry k
-      → set m k v ≡ filled entry (k + 1) before
-  masks_again k e s h q = filled_more entry before k e (omega arith) q
 
   pub masks_done : (k : ℕ) {m : List ℕ} → Sized (length p) l → m ≡ filled entry k before → length before ≡ l.nodes → k ≤ l.nodes → l.nodes ≤ k
       → m ≡ masks_in (arena_of p g u f l) n ranks
@@ -140,6 +107,6 @@ module _ (p : List ℕ) (g : List (List ℕ)) (u f : List ℕ) (l : Level) (n : 
     pub masks_known : m ≡ masks_after p g u f l n ranks before → m ≡ masks_in (arena_of p g u f l) n ranks
     masks_known q = rw (fitted (length p) l (length before) s e) at q
 
-pub ruleset all_masks = (rules, masks_start, masks_again, masks_done)
+pub ruleset all_masks = (rules, filled_none, filled_more, masks_done)
 
 pub ruleset any_buffer = (rules, sized_level, masks_unsized, masks_other, masks_fitted)

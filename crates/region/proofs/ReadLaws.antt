@@ -6,13 +6,14 @@ use lib.ListN.{length}
 use Rattle.theory.specs.Answer.{accepted}
 use Rattle.sheet.specs.Form.{part_at}
 use Rattle.sheet.specs.Bodies.{positions_body}
-use Rattle.reader.specs.Reading.{read_answer, reading_means}
+use Rattle.reader.specs.Reading.{read_answer}
+use Rattle.sheet.specs.Refusals.{answer_of}
+use Rattle.sheet.specs.declared.refusal.Refusal.{Refusal}
 use Rattle.sheet.specs.SheetGame.{game_of}
 use Rattle.sheet.specs.code.Arrays.{bodies_game}
 use Rattle.reader.specs.code.Laid.{grid_at}
 use Rattle.reader.specs.declared.reading.Layout.{Layout}
-use Rattle.reader.specs.declared.reading.Reading.{Reading}
-use Rattle.reader.specs.declared.reading.Reading.TheVariants.{Accepted}
+use Rattle.std.proofs.Common.{Result, Ok}
 use Rattle.reader.proofs.Accepted.{read_is, read_accepted, ranges, few_nodes, carries}
 use Rattle.reader.proofs.Bodies.{laid_game}
 use Rattle.walk.specs.declared.level.Level.{Level}
@@ -20,7 +21,7 @@ use Rattle.walk.specs.code.Levels.{Room, level_at, level_to}
 use Rattle.walk.specs.code.Nodes.{Sized}
 use Rattle.walk.proofs.LevelLaws.{level_whole, level_sized}
 
-module _ (s : List ℕ) (rd : Reading) (e : reading_means rd ≡ read_answer s) (l : Layout) (a : rd ≡ Accepted l) (p : List ℕ)
+module _ (s : List ℕ) (rd : Result Layout Refusal) (e : answer_of rd ≡ read_answer s) (l : Layout) (a : rd ≡ Ok l) (p : List ℕ)
     (ep : p ≡ part_at s l.positions) where
   answered : read_answer s ≡ accepted l
   answered = read_accepted s rd e l a

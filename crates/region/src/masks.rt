@@ -1,114 +1,62 @@
-// The masks: what each node allows once the ranks stand. What has fallen is the nodes of rank 1 to n.
+// The masks: what each node allows once the ranks stand.
 ghost use Rattle.std.specs.Prelude.{◌≡◌, ◌<◌, length};
-ghost use Rattle.walk.specs.code.Levels.{arena_of};
-ghost use Rattle.walk.specs.code.Nodes.{Sized};
-ghost use Rattle.region.specs.code.Kept.{allowed_in, mask_in, masks_in, masks_after};
+ghost use Rattle.walk.specs.code.Arenas.{arena_in, IsSized};
+ghost use Rattle.region.specs.code.Kept.{allowed_in, mask_in, masks_in, masks_left};
 
-use crate::words::kept;
-use sheet::limits::{INDEX, ROW, ROWS};
+use crate::words::Kept;
 use walk::arena::{Arena, Fallen};
-use walk::level::Level;
 
 // The bits of the actions that are not spoilt at node k, which is kept.
-fn allowed(
-    p: &[u8],
-    grid: &[[u16; ROW]; ROWS],
-    u: &[u8],
-    firsts: &[u16; INDEX],
-    level: Level,
-    ranks: &[u16],
-    n: u16,
-    k: usize,
-) -> u8
-    requires { (Sized (length p.now) level) × (k < level.nodes) }
-    ensures { result
-        ≡ allowed_in (arena_of p.now grid.now u.now firsts.now level) n ranks.now k }
+fn allowed(arena: &Arena, fallen: &Fallen, k: usize) -> u8
+    requires { (IsSized arena.now) × (k < arena.now.level.nodes) }
+    ensures { result ≡ allowed_in (arena_in arena.now) fallen.now.last fallen.now.marks.now k }
 {
-    let arena = Arena {
-        positions: p,
-        grid,
-        moves: u,
-        firsts,
-        level,
-    };
-    let fallen = Fallen {
-        marks: ranks,
-        last: n,
-    };
-    let mut mask: usize = 0;
-    let mut bit: usize = 1;
-    let mut c: usize = 0;
-    while c < level.actions {
-        if !arena.spoilt(&fallen, k, c) {
-            mask += bit;
+    let mut mask: u8 = 0;
+    for c in 0..arena.level.actions {
+        if !arena.spoilt(fallen, k, c) {
+            mask += 1 << c;
         }
-        bit *= 2;
-        c += 1;
     }
-    mask as u8
+    mask
 }
 
-fn mask_of(
-    p: &[u8],
-    grid: &[[u16; ROW]; ROWS],
-    u: &[u8],
-    firsts: &[u16; INDEX],
-    level: Level,
-    ranks: &[u16],
-    n: u16,
-    k: usize,
-) -> u8
-    requires { (Sized (length p.now) level) × (k < level.nodes) }
-    ensures { result
-        ≡ mask_in (arena_of p.now grid.now u.now firsts.now level) n ranks.now k }
+#[tactic(auto, using(crate::proofs::MaskLaws::a_mask))]
+fn mask_of(arena: &Arena, fallen: &Fallen, k: usize) -> u8
+    requires { (IsSized arena.now) × (k < arena.now.level.nodes) }
+    ensures { result ≡ mask_in (arena_in arena.now) fallen.now.last fallen.now.marks.now k }
 {
-    if !kept(p, level, ranks, k) {
+    let kept = Kept {
+        positions: arena.positions,
+        grid: arena.grid,
+        level: arena.level,
+        ranks: fallen.marks,
+    };
+    if !kept.has(k) {
         return 0;
     }
-    allowed(p, grid, u, firsts, level, ranks, n, k)
+    allowed(arena, fallen, k)
 }
 
-fn all_masks(
-    p: &[u8],
-    grid: &[[u16; ROW]; ROWS],
-    u: &[u8],
-    firsts: &[u16; INDEX],
-    level: Level,
-    ranks: &[u16],
-    n: u16,
-    masks: &mut [u8],
-)
-    requires { (Sized (length p.now) level) × (length masks.old ≡ level.nodes) }
-    ensures { masks.new
-        ≡ masks_in (arena_of p.now grid.now u.now firsts.now level) n ranks.now }
+#[tactic(auto, using(crate::proofs::MaskLaws::all_masks))]
+fn all_masks(arena: &Arena, fallen: &Fallen, masks: &mut [u8])
+    requires { (IsSized arena.now) × (length masks.old ≡ arena.now.level.nodes) }
+    ensures { masks.new ≡ masks_in (arena_in arena.now) fallen.now.last fallen.now.marks.now }
 {
-    let mut k: usize = 0;
-    while k < level.nodes {
-        masks[k] = mask_of(p, grid, u, firsts, level, ranks, n, k);
-        k += 1;
+    for (k, mask) in masks.iter_mut().enumerate() {
+        *mask = mask_of(arena, fallen, k);
     }
 }
 
 // The same for any level and buffer: nothing is done where the level is too large or the buffer has not one entry for each node.
-pub fn fill_masks(
-    p: &[u8],
-    grid: &[[u16; ROW]; ROWS],
-    u: &[u8],
-    firsts: &[u16; INDEX],
-    level: Level,
-    ranks: &[u16],
-    n: u16,
-    masks: &mut [u8],
-)
-    ensures { masks.new
-        ≡ masks_after p.now grid.now u.now firsts.now level n
-        ranks.now masks.old }
+#[tactic(auto, using(crate::proofs::MaskLaws::any_buffer))]
+pub fn fill_masks(arena: &Arena, fallen: &Fallen, masks: &mut [u8])
+    ensures { masks.new ≡ masks_left arena.now fallen.now masks.old }
 {
-    if !level.is_sized(p.len()) {
+    if !arena.level.is_sized(arena.positions.len()) {
         return;
     }
-    if masks.len() != level.nodes {
+    if masks.len() != arena.level.nodes {
         return;
     }
-    all_masks(p, grid, u, firsts, level, ranks, n, masks);
+    all_masks(arena, fallen, masks);
 }

@@ -1,141 +1,130 @@
-// Good first words, once the ranks stand.
-ghost use Rattle.std.specs.Prelude.{◌≡◌, ◌≤◌, ◌<◌, length};
+// Kept nodes and good first words, once the ranks stand.
+ghost use Rattle.std.specs.Prelude.{◌≡◌, ◌<◌, length};
 ghost use Rattle.theory.specs.Fold.{any_below, tabulate};
-ghost use Rattle.walk.specs.code.Nodes.{Sized};
-ghost use Rattle.theory.specs.Rounds.{kept_by};
 ghost use Rattle.theory.specs.Delay.{flag_by};
-ghost use Rattle.sheet.specs.Limits.{most_positions, most_actions, most_nodes};
-ghost use Rattle.region.specs.code.Kept.{on_side, good_in, first_words, some_good};
+ghost use Rattle.sheet.specs.Limits.{most_positions};
+ghost use Rattle.region.specs.code.Kept.{first_words, IsSized, keeps, good, some_good_in};
 ghost use Rattle.region.specs.code.Flags.{flags_count, flags_after};
 
 use reader::arrays::grid_at;
-use reader::reading::{Reading, read};
-use sheet::form::{part, wide16};
+use reader::reading::read;
+use sheet::form::part;
 use sheet::grid::target;
 use sheet::kinds::{on_right, safe_at};
 use sheet::limits::{ABSENT, MOST_POSITIONS, ROW, ROWS};
 use walk::level::{Level, level_at};
 
-pub(crate) fn kept(p: &[u8], level: Level, ranks: &[u16], k: usize) -> bool
-    requires { Sized (length p.now) level }
-    ensures { result ≡ kept_by (on_side p.now level) ranks.now k }
-{
-    if !on_right(p, level.odd, k / level.words) {
-        return false;
-    }
-    if ranks.len() <= k {
-        return true;
-    }
-    ranks[k] == 0
+// The nodes that these ranks keep at one delay: those of the right side without a rank. First words don't ask about the environment's
+// moves, so they are not here.
+#[derive(Clone, Copy)]
+pub struct Kept<'a> {
+    pub positions: &'a [u8],
+    pub grid: &'a [[u16; ROW]; ROWS],
+    pub level: Level,
+    pub ranks: &'a [u16],
 }
 
-pub(crate) fn first_words(level: Level) -> usize
-    requires { (level.words ≤ most_nodes) × (level.actions ≤ most_actions) }
-    ensures { result ≡ first_words level }
-{
-    if level.odd {
-        return level.words * level.actions;
+impl Kept<'_> {
+    #[tactic(auto, unfolding(theory::specs::Rounds::kept_by, theory::specs::Rounds::fell, theory::specs::Fold::both, crate::specs::code::Kept::on_side))]
+    pub(crate) fn has(&self, k: usize) -> bool
+        requires { IsSized self.now }
+        ensures { result ≡ keeps self.now k }
+    {
+        on_right(self.positions, self.level.odd, k / self.level.words)
+            && self.ranks.get(k).copied().unwrap_or(0) == 0
     }
-    level.words
-}
 
-pub(crate) fn good(
-    p: &[u8],
-    grid: &[[u16; ROW]; ROWS],
-    level: Level,
-    ranks: &[u16],
-    v: usize,
-) -> bool
-    requires { (Sized (length p.now) level) × (level.start < most_positions) × (v < first_words level) }
-    ensures { result ≡ good_in p.now grid.now level ranks.now v }
-{
-    if !level.odd {
-        return kept(p, level, ranks, level.start * level.words + v);
-    }
-    if !safe_at(p, level.start) {
-        return false;
-    }
-    let mark = target(grid, level.start, v / level.words);
-    if mark == ABSENT {
-        return false;
-    }
-    kept(
-        p,
-        level,
-        ranks,
-        wide16(mark) * level.words + v % level.words,
-    )
-}
-
-fn any_good(p: &[u8], grid: &[[u16; ROW]; ROWS], level: Level, ranks: &[u16]) -> bool
-    requires { (Sized (length p.now) level) × (level.start < most_positions) }
-    ensures { result ≡ any_below (good_in p.now grid.now level ranks.now) (first_words level) }
-{
-    let n = first_words(level);
-    let mut v: usize = 0;
-    while v < n {
-        if good(p, grid, level, ranks, v) {
-            return true;
+    // How many first words there are: at odd delays they have one action more.
+    #[tactic(auto, unfolding(crate::specs::code::Kept::first_words, crate::specs::code::Kept::words_on), using(crate::proofs::GoodLaws::few_words_fit))]
+    fn words(&self) -> usize
+        requires { IsSized self.now }
+        ensures { result ≡ first_words self.now.level }
+    {
+        if self.level.odd {
+            return self.level.words * self.level.actions;
         }
-        v += 1;
+        self.level.words
     }
-    false
+
+    #[tactic(auto, unfolding(crate::specs::code::Kept::good_in, theory::specs::Delay::good_by, theory::specs::Delay::kept_at, theory::specs::Fold::both, sheet::specs::code::Arrays::unmark, sheet::specs::code::Arrays::view_of), using(crate::proofs::GoodLaws::fitting))]
+    fn good(&self, v: usize) -> bool
+        requires { (IsSized self.now) × (self.now.level.start < most_positions) × (v < first_words self.now.level) }
+        ensures { result ≡ good self.now v }
+    {
+        if !self.level.odd {
+            return self.has(self.level.start * self.level.words + v);
+        }
+        if !safe_at(self.positions, self.level.start) {
+            return false;
+        }
+        let mark = target(self.grid, self.level.start, v / self.level.words);
+        if mark == ABSENT {
+            return false;
+        }
+        self.has(usize::from(mark) * self.level.words + v % self.level.words)
+    }
+
+    #[tactic(auto, using(crate::proofs::GoodLaws::searching))]
+    fn any_good(&self) -> bool
+        requires { (IsSized self.now) × (self.now.level.start < most_positions) }
+        ensures { result ≡ any_below (good self.now) (first_words self.now.level) }
+    {
+        for v in 0..self.words() {
+            if self.good(v) {
+                return true;
+            }
+        }
+        false
+    }
+
+    // Is some first word good? For any level: none is where it or its start is too large.
+    #[tactic(auto, using(crate::proofs::GoodLaws::guarded))]
+    pub fn some_good(&self) -> bool
+        ensures { result ≡ some_good_in self.now }
+    {
+        if !self.level.is_sized(self.positions.len()) {
+            return false;
+        }
+        if MOST_POSITIONS <= self.level.start {
+            return false;
+        }
+        self.any_good()
+    }
+
+    #[tactic(auto, using(crate::proofs::FlagLaws::all_flags), unfolding(theory::specs::Delay::flag_by))]
+    fn fill_flags(&self, flags: &mut [u8])
+        requires { (IsSized self.now) × (self.now.level.start < most_positions) × (length flags.old ≡ first_words self.now.level) }
+        ensures { flags.new ≡ tabulate (flag_by (good self.now)) 0 (first_words self.now.level) }
+    {
+        for (v, flag) in flags.iter_mut().enumerate() {
+            *flag = u8::from(self.good(v));
+        }
+    }
 }
 
-// The same for any level: no word is good where it or its start is too large.
-pub fn some_good(p: &[u8], grid: &[[u16; ROW]; ROWS], level: Level, ranks: &[u16]) -> bool
-    ensures { result ≡ some_good p.now grid.now level ranks.now }
-{
-    if !level.is_sized(p.len()) {
-        return false;
-    }
-    if MOST_POSITIONS <= level.start {
-        return false;
-    }
-    any_good(p, grid, level, ranks)
-}
-
-fn flag(p: &[u8], grid: &[[u16; ROW]; ROWS], level: Level, ranks: &[u16], v: usize) -> u8
-    requires { (Sized (length p.now) level) × (level.start < most_positions) × (v < first_words level) }
-    ensures { result ≡ flag_by (good_in p.now grid.now level ranks.now) v }
-{
-    if good(p, grid, level, ranks, v) {
-        return 1;
-    }
-    0
-}
-
-fn fill_flags(p: &[u8], grid: &[[u16; ROW]; ROWS], level: Level, ranks: &[u16], flags: &mut [u8])
-    requires { (Sized (length p.now) level) × (level.start < most_positions) × (length flags.old ≡ first_words level) }
-    ensures { flags.new
-        ≡ tabulate (flag_by (good_in p.now grid.now level ranks.now)) 0 (first_words level) }
-{
-    let n = first_words(level);
-    let mut v: usize = 0;
-    while v < n {
-        flags[v] = flag(p, grid, level, ranks, v);
-        v += 1;
-    }
-}
-
-// The flags of a sheet's first words by these ranks, and how many they are; nothing and 0 where the sheet is refused or the buffer
-// has no room for all.
+// The flags of a sheet's first words by these ranks, and how many are written: none where the sheet is refused or the buffer has no
+// room for all.
+#[tactic(auto, using(crate::proofs::FlagLaws::flagging))]
 pub fn initial_flags(sheet: &[u8], ranks: &[u16], flags: &mut [u8]) -> usize
     ensures count { result ≡ flags_count sheet.now (length flags.old) }
     ensures flags { flags.new ≡ flags_after sheet.now ranks.now flags.old }
 {
-    let reading = read(sheet);
-    let Reading::Accepted(l) = reading else {
+    let Ok(l) = read(sheet) else {
         return 0;
     };
-    let positions = l.positions;
-    let p = part(sheet, positions);
-    let level = level_at(p.len(), l.start, l.actions, l.delay);
-    let n = first_words(level);
+    let positions = part(sheet, l.positions);
+    let grid = grid_at(sheet, l);
+    let level = level_at(positions.len(), l.start, l.actions, l.delay);
+    let kept = Kept {
+        positions,
+        grid: &grid,
+        level,
+        ranks,
+    };
+    let n = kept.words();
     if flags.len() < n {
         return 0;
     }
-    let grid = grid_at(sheet, l);
-    fill_flags(p, &grid, level, ranks, &mut flags[..n]);
+    kept.fill_flags(&mut flags[..n]);
     n
 }

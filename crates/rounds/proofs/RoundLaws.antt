@@ -28,25 +28,6 @@ use Rattle.walk.proofs.NodeLaws.{at_node}
 use Rattle.rounds.specs.code.Falling.{first_rank, falls_to, falls_next, next_ranks, AtMost, last_round}
 use Rattle.theory.proofs.Filling.{filled, filled_none, filled_more, filled_keep, filled_done, filled_below, filled_above}
 
--- round 1
-
-module _ (p : List ℕ) (l : Level) (k : ℕ) where
-  pub first_wrong : {r : Bool} → r ≡ on_right l.odd (controller_at p) (k / l.words) → not r ≡ true → 0 ≡ first_rank p l k
-  unfolding first_rank both
-  first_wrong {r} e n = rw (← e, not-true r n)
-
-  pub first_safe : {r s : Bool} → r ≡ on_right l.odd (controller_at p) (k / l.words) → not r ≡ false → s ≡ safe_at p (k / l.words) → s ≡ true
-      → 0 ≡ first_rank p l k
-  unfolding first_rank both
-  first_safe {r} e n f t = rw (← e, not-false r n, ← f, t)
-
-  pub first_unsafe : {r s : Bool} → r ≡ on_right l.odd (controller_at p) (k / l.words) → not r ≡ false → s ≡ safe_at p (k / l.words) → s ≡ false
-      → 1 ≡ first_rank p l k
-  unfolding first_rank both
-  first_unsafe {r} e n f t = rw (← e, not-false r n, ← f, t)
-
-pub ruleset firstly = (rules, first_wrong, first_safe, first_unsafe)
-
 pub ruleset filling = (rules, filled_none, filled_more, filled_done)
 
 -- the arena of the arrays

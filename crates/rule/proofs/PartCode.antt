@@ -18,7 +18,7 @@ use Rattle.theory.specs.Buffer.{over}
 use Rattle.theory.specs.Rounds.{Arena, spoilt_by, mask_below}
 use Rattle.theory.specs.Delay.{on_right}
 use Rattle.theory.specs.Table.{bit}
-use Rattle.theory.proofs.Fold.{both_none, both_false, both_true, failed, passed, length_tabulate, get_d_tabulate}
+use Rattle.theory.proofs.Fold.{both_none, both_second, both_false, both_true, failed, passed, length_tabulate, get_d_tabulate}
 use Rattle.theory.proofs.Buffer.{over_front, over_beyond}
 use Rattle.theory.proofs.Filling.{filled, filled_none, filled_more, filled_over}
 use Rattle.theory.proofs.Masks.{mask_first, mask_next, mask_done, cond_le, mask_lt}
@@ -30,20 +30,9 @@ use Rattle.walk.specs.code.Levels.{arena_of}
 use Rattle.walk.specs.code.Nodes.{Sized, is_node}
 use Rattle.walk.specs.code.Walks.{fallen_by, spoilt_answer}
 use Rattle.walk.proofs.NodeLaws.{node_level, node_lt, at_action}
-use Rattle.region.proofs.MaskLaws.{bit_first, bit_fits}
-use Rattle.rule.specs.code.Parts.{mark_for, mark_at, marks_after, Marked, bit_left, stays, part_of, part_in}
+use Rattle.rule.specs.code.Parts.{mark_for, mark_at, marks_after, Marked, stays, part_of, part_in}
 
 -- marks
-
-pub mark_none : {m : ℕ} → m ≡ 0 → 1 ≡ mark_for m
-unfolding mark_for
-mark_none {m} e = rw (eq-eqb m 0 e)
-
-pub mark_some : {m : ℕ} → (m ≡ 0 → ⊥) → 0 ≡ mark_for m
-unfolding mark_for
-mark_some {m} n = rw (ne_eqb m 0 n)
-
-pub ruleset marks = (rules, mark_none, mark_some)
 
 -- by which the walk counts a node as fallen
 pub mark_fallen : (b : Bool) → both (ltb 0 (cond b 1 0)) (leb (cond b 1 0) 1) ≡ b
@@ -107,59 +96,22 @@ module _ (masks marks : List ℕ) where
 
 pub ruleset marking = (rules, mark_at_lem, marks_start, marks_more, marks_done, marks_room, marks_out)
 
--- one bit; s is whether its action is spoilt
-
-module _ (left : ℕ) (s : Bool) (b : ℕ) where
-  pub bit_out : left % 2 ≡ 0 → 0 ≡ bit_left left s b
-  unfolding bit_left
-  bit_out e = rw (both_none (eqb (left % 2) 1) (not s) (ne_eqb (left % 2) 1 (λ z. omega arith)))
-
-  pub bit_spoilt : {r : Bool} → r ≡ s → r ≡ true → 0 ≡ bit_left left s b
-  unfolding bit_left
-  bit_spoilt e t = let f : s ≡ true = sym e ∙ t in rw (both_false (eqb (left % 2) 1) (not s) (rw f))
-
-  pub bit_stays : {r : Bool} → (left % 2 ≡ 0 → ⊥) → r ≡ s → r ≡ false → b ≡ bit_left left s b
-  unfolding bit_left
-  bit_stays n e t =
-      let f : s ≡ false = sym e ∙ t in
-      let o : left % 2 ≡ 1 = omega arith in
-      rw (both_true (eqb (left % 2) 1) (not s) (eq-eqb _ 1 o) (rw f))
-
-pub ruleset a_bit = (rules, bit_out, bit_spoilt, bit_stays)
-
--- the loop over the actions: the bits passed, the next bit and what is left of the mask
-
-pub left_first : (m : ℕ) → m ≡ m / 2 ^ 0
-left_first m = sym (div-one m)
-
-pub left_next : (m c : ℕ) {left : ℕ} → left ≡ m / 2 ^ c → left / 2 ≡ m / 2 ^ (c + 1)
-left_next m c e = rw (e, add-one c, pow-suc 2 c) (div-div-eq-div-mul m (2 ^ c) 2)
-
-pub part_fits : (p : ℕ → Bool) (c left : ℕ) (s : Bool) {a m r b : ℕ} → m ≡ mask_below p c → b ≡ 2 ^ c → r ≡ bit_left left s b → c < a
-    → a ≤ most_actions → Fits w64 (m + r)
-unfolding bit_left
-part_fits p c left s {a} {m} {r} {b} e f g h l =
-    let n = mask_lt p c in
-    let i : c ≤ most_actions = omega arith in
-    let o : 2 ^ c ≤ 2 ^ most_actions = pow_mono i in
-    let q : r ≤ b = rw g (cond_le (both (eqb (left % 2) 1) (not s)) b) in
-    record { fits = omega arith }
+-- the node
 
 module _ (p : List ℕ) (g : List (List ℕ)) (u f : List ℕ) (l : Level) (marks : List ℕ) (k : ℕ) where
   abbrev here : Arena
   here = arena_of p g u f l
 
-  pub part_next : (mask c : ℕ) {m r b left : ℕ} → Sized (length p) l → k < l.nodes → c < l.actions
-      → m ≡ mask_below (stays here (fallen_by 1 marks) k mask) c → b ≡ 2 ^ c → left ≡ mask / 2 ^ c
-      → r ≡ bit_left left (spoilt_answer p g u f l marks 1 k c) b
-      → m + r ≡ mask_below (stays here (fallen_by 1 marks) k mask) (c + 1)
-  unfolding bit_left stays bit
-  part_next mask c {m} {r} {b} {left} z h a e eb el er =
-      let s : spoilt_answer p g u f l marks 1 k c ≡ spoilt_by here (fallen_by 1 marks) k c = at_action (length p) l k c z h a refl in
-      let q : r ≡ cond (stays here (fallen_by 1 marks) k mask c) (2 ^ c) 0 = er ∙ rw (s, el, eb) in
-      ap (λ x. m + x) q
-      ∙ ap (λ x. x + cond (stays here (fallen_by 1 marks) k mask c) (2 ^ c) 0) e
-      ∙ sym (mask_next (stays here (fallen_by 1 marks) k mask) c)
+  -- whether a bit stays, by the walk's answer
+  pub bit_out : (mask c : ℕ) → (mask / 2 ^ c % 2 ≡ 1 → ⊥) → stays here (fallen_by 1 marks) k mask c ≡ false
+  unfolding stays bit
+  bit_out mask c n = both_none _ _ (ne_eqb (mask / 2 ^ c % 2) 1 n)
+
+  pub bit_stays : (mask c : ℕ) {r : Bool} → Sized (length p) l → k < l.nodes → c < l.actions → mask / 2 ^ c % 2 ≡ 1
+      → r ≡ spoilt_answer p g u f l marks 1 k c → stays here (fallen_by 1 marks) k mask c ≡ not r
+  unfolding stays bit
+  bit_stays mask c z h a o e =
+      both_second _ _ (eq-eqb (mask / 2 ^ c % 2) 1 o) ∙ ap not (sym (at_action (length p) l k c z h a e))
 
   -- the node's side and safety before
 
@@ -190,7 +142,5 @@ module _ (p : List ℕ) (g : List (List ℕ)) (u f : List ℕ) (l : Level) (mark
       unfolding part_of arena_of view_of
       part_is n o q =
           q ∙ sym (there ∙ rw (both_true (here.right k) (here.safe k) (passed e n) (passed es o)))
-
-pub ruleset parting = (rules, mask_first, bit_first, left_first, mask_done, part_fits, bit_fits)
 
 pub ruleset a_part = (rules, node_level, node_lt, words_here, part_absent, part_wrong, part_unsafe, part_is)

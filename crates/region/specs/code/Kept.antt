@@ -10,8 +10,11 @@ use Rattle.sheet.specs.Kinds.{controller_at}
 use Rattle.sheet.specs.code.Arrays.{view_of}
 use Rattle.walk.specs.declared.level.Level.{Level}
 use Rattle.walk.specs.code.Levels.{arena_of}
-use Rattle.walk.specs.code.Nodes.{is_sized, is_fitted}
+use Rattle.walk.specs.code.Nodes.{Sized, is_sized, is_fitted}
 use Rattle.walk.specs.code.Walks.{fallen_by}
+use Rattle.walk.specs.declared.arena.Arena.{Arena as Arrays}
+use Rattle.walk.specs.declared.arena.Fallen.{Fallen}
+use Rattle.region.specs.declared.words.Kept.{Kept}
 
 -- node k is of the right side
 unfoldable pub on_side : List ℕ → Level → ℕ → Bool
@@ -53,3 +56,20 @@ first_words l = words_on l.odd l
 abbrev pub some_good : List ℕ → List (List ℕ) → Level → List ℕ → Bool
 some_good p g l ranks =
     both (is_sized (length p) l) (both (ltb l.start most_positions) (any_below (good_in p g l ranks) (first_words l)))
+
+-- the same over the code's arena, and over what decides about first words (src/words.rt)
+
+abbrev pub masks_left : Arrays → Fallen → List ℕ → List ℕ
+masks_left a f = masks_after a.positions.now a.grid.now a.moves.now a.firsts.now a.level f.last f.marks.now
+
+abbrev pub IsSized : Kept → Type 0
+IsSized w = Sized (length w.positions.now) w.level
+
+abbrev pub keeps : Kept → ℕ → Bool
+keeps w = kept_by (on_side w.positions.now w.level) w.ranks.now
+
+abbrev pub good : Kept → ℕ → Bool
+good w = good_in w.positions.now w.grid.now w.level w.ranks.now
+
+abbrev pub some_good_in : Kept → Bool
+some_good_in w = some_good w.positions.now w.grid.now w.level w.ranks.now

@@ -8,6 +8,8 @@ use Rattle.walk.specs.code.Nodes.{is_fitted}
 use Rattle.walk.specs.code.Walks.{fallen_by}
 use Rattle.theory.specs.Delay.{on_right}
 use Rattle.walk.specs.code.Levels.{arena_of}
+use Rattle.walk.specs.code.Arenas.{arena_in}
+use Rattle.walk.specs.declared.arena.Arena as walk
 
 -- a node's rank after round 1
 unfoldable pub first_rank : List ℕ → Level → ℕ → ℕ
@@ -39,15 +41,18 @@ unfoldable pub Ranked : Bool → Arena → List ℕ → List ℕ → ℕ → Typ
 Ranked true E before after n = (after ≡ final_ranks E) × (n ≡ last_round after)
 Ranked false E before after n = (after ≡ before) × (n ≡ 0)
 
--- over the arrays: what round n + 1 leaves of the ranks before it, and whether a node fell
-abbrev pub RoundLeaves : List ℕ → List (List ℕ) → List ℕ → List ℕ → Level → ℕ → List ℕ → List ℕ → Bool → Type 0
-RoundLeaves p g u f l n before after any =
-    (after ≡ next_ranks (arena_of p g u f l) n before) × (any ≡ any_below (falls_next (arena_of p g u f l) n before) l.nodes)
+-- over the code's arena: what round n + 1 leaves of the ranks before it, and whether a node fell
+abbrev pub RoundLeaves : walk.Arena → ℕ → List ℕ → List ℕ → Bool → Type 0
+RoundLeaves a n before after any =
+    (after ≡ next_ranks (arena_in a) n before) × (any ≡ any_below (falls_next (arena_in a) n before) a.level.nodes)
 
 -- what all rounds leave, and the number of the last
-abbrev pub FinalRanks : List ℕ → List (List ℕ) → List ℕ → List ℕ → Level → List ℕ → ℕ → Type 0
-FinalRanks p g u f l after n = (after ≡ final_ranks (arena_of p g u f l)) × (n ≡ last_round after)
+abbrev pub FinalRanks : walk.Arena → List ℕ → ℕ → Type 0
+FinalRanks a after n = (after ≡ final_ranks (arena_in a)) × (n ≡ last_round after)
 
 -- the same for any level and buffer
 abbrev pub RanksLeft : List ℕ → List (List ℕ) → List ℕ → List ℕ → Level → List ℕ → List ℕ → ℕ → Type 0
 RanksLeft p g u f l before after n = Ranked (is_fitted (length p) l (length before)) (arena_of p g u f l) before after n
+
+abbrev pub RanksLeftIn : walk.Arena → List ℕ → List ℕ → ℕ → Type 0
+RanksLeftIn a = RanksLeft a.positions.now a.grid.now a.moves.now a.firsts.now a.level

@@ -8,6 +8,7 @@ use Rattle.walk.specs.declared.level.Level.{Level}
 use Rattle.walk.specs.code.Levels.{arena_of}
 use Rattle.walk.specs.code.Nodes.{is_node}
 use Rattle.walk.specs.code.Walks.{fallen_by}
+use Rattle.walk.specs.declared.arena.Arena.{Arena as Arrays}
 
 -- a node's mark for the walk: 1, fallen, where it has no mask
 unfoldable pub mark_for : ℕ → ℕ
@@ -24,10 +25,6 @@ marks_after masks buffer = cond (leb (length masks) (length buffer)) (over (tabu
 abbrev pub Marked : List ℕ → List ℕ → Type 0
 Marked masks marks = (k : ℕ) → k < length masks → get_or marks k 0 ≡ mark_at masks k
 
--- a bit where what is left of the mask begins with it and its action is not spoilt, else 0
-unfoldable pub bit_left : ℕ → Bool → ℕ → ℕ
-bit_left left spoilt b = cond (both (eqb (left % 2) 1) (not spoilt)) b 0
-
 -- action c is in the mask m and not spoilt at node k
 unfoldable pub stays : Arena → (ℕ → Bool) → ℕ → ℕ → ℕ → Bool
 stays E fallen k m c = both (bit m c) (not (spoilt_by E fallen k c))
@@ -43,3 +40,10 @@ stays_in p g u f l marks k m = stays (arena_of p g u f l) (fallen_by 1 marks) k 
 -- for any numbers: nothing where there is no such node
 unfoldable pub part_in : List ℕ → List (List ℕ) → List ℕ → List ℕ → Level → List ℕ → ℕ → ℕ → ℕ
 part_in p g u f l marks k m = cond (is_node (length p) l k) (part_of (arena_of p g u f l) (fallen_by 1 marks) k m) 0
+
+-- the same over the code's arena
+abbrev pub stays_at : Arrays → List ℕ → ℕ → ℕ → ℕ → Bool
+stays_at a = stays_in a.positions.now a.grid.now a.moves.now a.firsts.now a.level
+
+abbrev pub part_at : Arrays → List ℕ → ℕ → ℕ → ℕ
+part_at a = part_in a.positions.now a.grid.now a.moves.now a.firsts.now a.level

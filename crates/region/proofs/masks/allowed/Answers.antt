@@ -1,40 +1,30 @@
 -- `allowed` meets its contract. The mask has the bits of the actions passed. Assumes nothing.
-use borrow.Author.Rules.{rules}
-use Rattle.region.proofs.MaskLaws.{bits, bits_set, bits_kept, bit_next}
+use Rattle.std.proofs.Common.{◌∙◌, sym, ap, not, arith}
+use Rattle.theory.proofs.Masks.{mask_first}
+use Rattle.region.proofs.MaskLaws.{bit_shifted, mask_set, mask_kept, mask_fits, allowed_is, allowed_done}
 use Rattle.region.proofs.masks.allowed.Goals as goal
 use Rattle.region.proofs.masks.allowed.Goals.{then-not-spoilt, else-not-spoilt}
-use mathlib.Core.Path.{ap}
-use mathlib.Core.Bool.{not}
-
-pub loop-c-preserved : goal.loop-c-preserved
-loop-c-preserved c = let l = c.loop-c in
-    let i = c.requires in
-    let a = c.loop-c-test.true in
-    let r = c.spoilt.ensures in
-    elim c.if-not-spoilt.branch [
-      | then-not-spoilt w ↦ (
-        search rules,
-        bits_set _ _ _ _ _ _ _ _ l.c i.0 i.1 a w.mask-is l.invariant.1 l.invariant.2 r (ap not w.if-not-spoilt.true),
-        bit_next l.c l.invariant.2,
-      )
-      | else-not-spoilt w ↦ (
-        search rules,
-        bits_kept _ _ _ _ _ _ _ _ l.c i.0 i.1 a w.mask-is l.invariant.1 r (ap not w.if-not-spoilt.false),
-        bit_next l.c l.invariant.2,
-      )
-    ]
 
 pub loop-c-init : goal.loop-c-init
-loop-c-init c = search bits
-
-pub spoilt-requires : goal.spoilt-requires
-spoilt-requires c = search bits
-
-pub returns : goal.returns
-returns c = search bits
+loop-c-init c = mask_first _
 
 pub overflow_add-mask : goal.overflow_add-mask
-overflow_add-mask c = search bits
+overflow_add-mask c =
+    let h = c.loop-c-test.true in
+    let a = c.requires.0.few_actions in
+    mask_fits _ c.loop-c.c c.loop-c.invariant (omega arith) (bit_shifted c.loop-c.c h a (omega arith)) h a
 
-pub overflow_cast-result : goal.overflow_cast-result
-overflow_cast-result c = search bits
+pub loop-c-preserved : goal.loop-c-preserved
+loop-c-preserved c =
+    let l = c.loop-c in
+    let i = c.requires in
+    let h = c.loop-c-test.true in
+    let q = allowed_is _ _ _ _ _ _ _ _ l.c i.0 i.1 h c.spoilt.ensures in
+    elim c.if-not-spoilt.branch [
+      | then-not-spoilt w ↦ mask_set _ l.c l.invariant w.mask-is (bit_shifted l.c h i.0.few_actions (omega arith)) (sym q ∙ ap not w.if-not-spoilt.true)
+      | else-not-spoilt w ↦ mask_kept _ l.c l.invariant w.mask-is (sym q ∙ ap not w.if-not-spoilt.false)
+    ]
+
+pub returns : goal.returns
+returns c =
+    let l = c.loop-c in allowed_done _ _ _ _ _ _ _ _ l.c (omega arith) (omega arith) l.invariant

@@ -1,7 +1,5 @@
 -- `round` meets its contract. The nodes passed have the next round's ranks, the others the old ones. Assumes nothing.
-use mathlib.Core.Path.{◌∙◌, ap}
-use native.Mathlib.Omega.{arith}
-use lib.ListN.{length, length-set}
+use Rattle.std.proofs.Common.{◌∙◌, arith}
 use Rattle.rounds.proofs.RoundLaws.{round_fell, round_kept, any_fell, any_kept, rounding}
 use Rattle.rounds.proofs.rounds.round.Goals as goal
 use Rattle.rounds.proofs.rounds.round.Goals.{then-falls_now, else-falls_now}
@@ -13,26 +11,14 @@ loop-k-preserved c =
     let r = c.falls_now.ensures in
     elim c.if-falls_now.branch [
       | then-falls_now w ↦ (
-        v.0,
-        omega arith,
-        ap length w.ranks-is ∙ simp length-set v.2,
-        w.ranks-is ∙ round_fell _ _ _ _ i.2 i.3 v.3 r w.if-falls_now.true (omega arith),
-        w.any-is ∙ any_fell _ _ _ _ i.2 i.3 v.3 r w.if-falls_now.true,
+        w.ranks-is ∙ round_fell _ _ _ _ i.2 i.3 v.0 r w.if-falls_now.true (omega arith),
+        w.any-is ∙ any_fell _ _ _ _ i.2 i.3 v.0 r w.if-falls_now.true,
       )
       | else-falls_now w ↦ (
-        v.0,
-        omega arith,
-        ap length w.ranks-is ∙ v.2,
-        w.ranks-is ∙ round_kept _ _ _ _ i.2 i.3 v.3 r w.if-falls_now.false (omega arith),
-        w.any-is ∙ any_kept _ _ _ _ i.2 i.3 v.3 r v.4 w.if-falls_now.false,
+        w.ranks-is ∙ round_kept _ _ _ _ i.2 i.3 v.0 r w.if-falls_now.false (omega arith),
+        w.any-is ∙ any_kept _ _ _ _ i.2 i.3 v.0 r v.1 w.if-falls_now.false,
       )
     ]
-
-pub loop-k-init : goal.loop-k-init
-loop-k-init c = search rounding
-
-pub falls_now-requires : goal.falls_now-requires
-falls_now-requires c = search rounding
 
 pub returns : goal.returns
 returns c = search rounding

@@ -1,28 +1,36 @@
 -- `unspoilt_part` meets its contract. The part has the bits of the actions passed. Assumes nothing.
-use borrow.Author.Rules.{rules}
-use Rattle.region.proofs.MaskLaws.{bit_next}
-use Rattle.rule.proofs.PartCode.{part_next, left_next, parting}
+use Rattle.std.proofs.Common.{◌∙◌, ap, not, arith}
+use Rattle.theory.proofs.Masks.{mask_first}
+use Rattle.region.proofs.MaskLaws.{bit_shifted, mask_set, mask_kept, mask_fits}
+use Rattle.rule.proofs.PartCode.{bit_out, bit_stays}
 use Rattle.rule.proofs.part.unspoilt_part.Goals as goal
-
-pub loop-c-preserved : goal.loop-c-preserved
-loop-c-preserved c = let l = c.loop-c in
-    let i = c.requires in
-    let a = rw l.invariant.0 at c.loop-c-test.true in (
-      l.invariant.0,
-      search rules,
-      part_next _ _ _ _ _ _ _ _ l.c i.0 i.1 a l.invariant.2 l.invariant.3 l.invariant.4 c.bit_left-part.ensures,
-      bit_next l.c l.invariant.3,
-      left_next _ l.c l.invariant.4,
-    )
+use Rattle.rule.proofs.part.unspoilt_part.Goals.{then-mask-c-eq1+then-not-spoilt, else-mask-c-eq1}
+use Rattle.rule.proofs.part.unspoilt_part.Goals.{else-mask-c-eq1-via-then-mask-c-eq1+else-not-spoilt, else-mask-c-eq1-via-else-mask-c-eq1}
 
 pub loop-c-init : goal.loop-c-init
-loop-c-init c = search parting
-
-pub bit_left-part-requires : goal.bit_left-part-requires
-bit_left-part-requires c = search parting
-
-pub returns : goal.returns
-returns c = search parting
+loop-c-init c = mask_first _
 
 pub overflow_add-part : goal.overflow_add-part
-overflow_add-part c = search parting
+overflow_add-part c =
+    let h = c.loop-c-test.true in
+    let a = c.requires.0.few_actions in
+    mask_fits _ c.loop-c.c c.loop-c.invariant (omega arith) (bit_shifted c.loop-c.c h a (omega arith)) h a
+
+pub loop-c-preserved : goal.loop-c-preserved
+loop-c-preserved c =
+    let l = c.loop-c in
+    let i = c.requires in
+    let h = c.loop-c-test.true in
+    elim c.if-mask-c-eq1.branch [
+      | then-mask-c-eq1+then-not-spoilt w ↦
+          mask_set _ l.c l.invariant w.part-is (bit_shifted l.c h i.0.few_actions (omega arith))
+          (bit_stays _ _ _ _ _ _ _ _ l.c i.0 i.1 h w.if-mask-c-eq1.true w.spoilt.ensures ∙ ap not w.if-not-spoilt.true)
+      | else-mask-c-eq1 w ↦
+          elim w.else-mask-c-eq1.branch [
+            | else-mask-c-eq1-via-then-mask-c-eq1+else-not-spoilt v ↦
+                mask_kept _ l.c l.invariant w.part-is
+                (bit_stays _ _ _ _ _ _ _ _ l.c i.0 i.1 h v.if-mask-c-eq1.true v.spoilt.ensures ∙ ap not v.if-not-spoilt.false)
+            | else-mask-c-eq1-via-else-mask-c-eq1 v ↦
+                mask_kept _ l.c l.invariant w.part-is (bit_out _ _ _ _ _ _ _ _ l.c v.if-mask-c-eq1.false)
+          ]
+    ]
