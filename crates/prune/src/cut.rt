@@ -9,6 +9,7 @@ ghost use Rattle.prune.specs.code.Pruning.{cut_at, Ready};
 use rule::part::{allowed_part, mark_for};
 use sheet::form::wide;
 use sheet::limits::{INDEX, ROW, ROWS};
+use walk::arena::Arena;
 use walk::level::Level;
 
 // What is left of node k's mask is stored. A node whose mask is gone joins the queue, where that has room: it tells which nodes are worth
@@ -60,6 +61,13 @@ pub(crate) fn cut(
     if mask == 0 {
         return tail;
     }
-    let rest = allowed_part(p, grid, u, firsts, level, marks, k, wide(mask));
+    let arena = Arena {
+        positions: p,
+        grid,
+        moves: u,
+        firsts,
+        level,
+    };
+    let rest = allowed_part(&arena, marks, k, wide(mask));
     leave(masks, marks, queue, k, rest as u8, tail)
 }

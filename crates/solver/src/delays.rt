@@ -5,7 +5,7 @@ ghost use Rattle.solver.specs.code.Search.{Searchable, Stopped, MasksStopped};
 
 use crate::levels::solve_level;
 use crate::spread::CELLS;
-use region::words::some_good;
+use region::words::Kept;
 use sheet::limits::{INDEX, MOST_MOVES, ROW, ROWS};
 use walk::level::level_at;
 
@@ -56,7 +56,13 @@ pub(crate) fn search(
             &mut ranks[..nodes],
             &mut masks[..nodes],
         );
-        let wins = some_good(p, grid, level, &ranks[..nodes]);
+        let kept = Kept {
+            positions: p,
+            grid,
+            level,
+            ranks: &ranks[..nodes],
+        };
+        let wins = kept.some_good();
         if !wins {
             break Stop {
                 wins: false,

@@ -12,6 +12,7 @@ use crate::work::work;
 use region::masks::fill_masks;
 use rounds::rounds::rounds;
 use sheet::limits::{INDEX, MOST_MOVES, ROW, ROWS};
+use walk::arena::{Arena, Fallen};
 use walk::level::Level;
 
 // The ranks, and the number of rounds; where words are pending, the masks too.
@@ -34,7 +35,14 @@ pub(crate) fn solve_level(
         ranks.new masks.new result }
 {
     if level.words == 1 {
-        return rounds(p, grid, u, firsts, level, ranks);
+        let arena = Arena {
+            positions: p,
+            grid,
+            moves: u,
+            firsts,
+            level,
+        };
+        return rounds(&arena, ranks);
     }
     work(
         p, grid, u, firsts, reaching, lines, leading, cells, level, ranks, masks,
@@ -58,6 +66,17 @@ pub(crate) fn mask_level(
         ≡ masks_by (arena_of p.now grid.now u.now firsts.now level) ranks.now }
 {
     if level.words == 1 {
-        fill_masks(p, grid, u, firsts, level, ranks, n, masks);
+        let arena = Arena {
+            positions: p,
+            grid,
+            moves: u,
+            firsts,
+            level,
+        };
+        let fallen = Fallen {
+            marks: ranks,
+            last: n,
+        };
+        fill_masks(&arena, &fallen, masks);
     }
 }
