@@ -9,9 +9,11 @@ use native.Mathlib.Numerals.{add-one}
 use lib.ListN.{length, get_or, set, replicate, length-set, length-replicate, get_or-replicate}
 use lib.Seq.{get_or-set_same, get_or-set_other, ext_get_or}
 use borrow.Author.Tests.{eq-eqb, ne_eqb, lt-ltb, le-ltb}
+use Rattle.std.specs.Simd.{first_chunks}
 use Rattle.theory.specs.Fold.{tabulate, both}
 use Rattle.theory.specs.Game.{to, absent}
 use Rattle.theory.proofs.Fold.{same?, both_true, both_false, length_tabulate, get_d_tabulate, tabulate_same, both_none}
+use Rattle.sheet.proofs.ChunkLaws.{chunk_entry}
 use Rattle.sheet.specs.SheetGame.{is_line, target_in}
 use Rattle.sheet.specs.code.Arrays.{mark_of, row_of, grid_after, grid_of, absent_mark, unmark, target_at}
 use Rattle.sheet.specs.Limits.{most_positions, most_actions}
@@ -110,20 +112,28 @@ module _ (c : List ℕ) (k : ℕ) where
           let m : q < most_positions = rw (length-set (grid_after c k) f (set (row_of c k f) a t), length_grid c k) at h in
           row_filled q m ∙ sym (row_at c (suc k) q m)))
 
--- as the loop finds it
+-- as the loop over the lines finds it: f, a and t are those of line k
 
-module _ (c : List ℕ) (k f a : ℕ) (g : List (List ℕ)) (so_far : g ≡ grid_after c k) where
-  pub grid_line : f ≡ get_or c (3 * k) 0 → get_or c (3 * k) 0 < most_positions → a ≡ get_or c (3 * k + 1) 0 → a < most_actions
-      → set g f (set (get_or g f []) a (get_or c (3 * k + 2) 0)) ≡ grid_after c (k + 1)
-  grid_line from byte action small =
-      rw so_far (grid_filled c k f a (get_or c (3 * k + 2) 0) from action refl (omega arith) small)
+module _ (c : List ℕ) (l : List (List ℕ)) (whole : l ≡ first_chunks 3 (length c / 3) c) (size : length l ≡ length c / 3) (k f a t : ℕ)
+    (g : List (List ℕ)) (so_far : g ≡ grid_after c k) where
+  entry : (j p : ℕ) → k < length l → j < 3 → p ≡ 3 * k + j → get_or (get_or l k []) j 0 ≡ get_or c p 0
+  entry j p h i e = rw whole (chunk_entry 3 (length c / 3) c k j p (omega arith) i e)
 
-  pub grid_skip : f ≡ get_or c (3 * k) 0 → a ≡ get_or c (3 * k + 1) 0 → most_actions ≤ a → g ≡ grid_after c (k + 1)
-  grid_skip from action large = so_far ∙ grid_kept c k f a 0 from action large
+  pub grid_line : k < length l → a ≡ get_or (get_or l k []) 1 0 → a < most_actions → f ≡ get_or (get_or l k []) 0 0
+      → get_or (get_or l k []) 0 0 < most_positions → t ≡ get_or (get_or l k []) 2 0
+      → set g f (set (get_or g f []) a t) ≡ grid_after c (k + 1)
+  grid_line h action small from byte target =
+      rw so_far
+      (grid_filled c k f a t (from ∙ entry 0 (3 * k) h (omega arith) (omega arith)) (action ∙ entry 1 (3 * k + 1) h (omega arith) refl)
+      (target ∙ entry 2 (3 * k + 2) h (omega arith) refl) (omega arith) small)
 
-pub grid_done : (c : List ℕ) (k : ℕ) (g : List (List ℕ)) → k ≤ length c / 3 → length c / 3 ≤ k → g ≡ grid_after c k → g ≡ grid_of c
+  pub grid_skip : k < length l → a ≡ get_or (get_or l k []) 1 0 → most_actions ≤ a → g ≡ grid_after c (k + 1)
+  grid_skip h action large =
+      so_far ∙ grid_kept c k (get_or c (3 * k) 0) a 0 refl (action ∙ entry 1 (3 * k + 1) h (omega arith) refl) large
+
+pub grid_done : (c : List ℕ) (k n : ℕ) (g : List (List ℕ)) → n ≡ length c / 3 → k ≤ n → n ≤ k → g ≡ grid_after c k → g ≡ grid_of c
 unfolding grid_of
-grid_done c k g l h e = let done : k ≡ length c / 3 = omega arith in rw done at e
+grid_done c k n g s l h e = let done : k ≡ length c / 3 = omega arith in rw done at e
 
 abbrev empty_row : List ℕ
 empty_row = replicate most_actions absent_mark

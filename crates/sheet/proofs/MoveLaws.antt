@@ -1,6 +1,6 @@
 -- The index of first lines (specs/code/Arrays.antt), as the code of src/moves.rt fills it. Assumes nothing.
 use Prim.Native.Nat.{ℕ, ◌+◌, ◌*◌, ◌≤◌, ◌<◌}
-use mathlib.Core.Path.{◌≡◌, refl}
+use mathlib.Core.Path.{◌≡◌, refl, ◌∙◌}
 use mathlib.Core.Bool.{true, false}
 use mathlib.Core.List.{List}
 use mathlib.Core.Logic.{⊎_elim}
@@ -25,9 +25,11 @@ module _ (u : List ℕ) (q : ℕ) where
   unfolding first_line from_below
   skip_found i s e h d f g = first_stops (from_below u q) i (omega arith) e (le-ltb _ q (omega arith))
 
-  pub skip_end : (i : ℕ) {n : ℕ} → n ≡ line_count u → all_below (from_below u q) i ≡ true → i ≤ line_count u → n ≤ i → i ≡ first_line u q
+  pub skip_end : (i : ℕ) {n : ℕ} → n ≡ line_count u → all_below (from_below u q) i ≡ true → i ≤ n → n ≤ i → n ≡ first_line u q
   unfolding first_line
-  skip_end i s e h g = first_ends (from_below u q) h (omega arith) e
+  skip_end i {n} s e h g =
+      let here : n ≡ i = omega arith in
+      here ∙ first_ends (from_below u q) (omega arith) (omega arith) e
 
   pub record Skipped (i : ℕ) : Type 0 where
     pub inside : i ≤ line_count u

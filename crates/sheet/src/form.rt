@@ -58,35 +58,28 @@ pub fn two_bytes(s: &[u8], at: usize) -> usize
 pub fn contents_ok(s: &[u8], letters: &[u8]) -> bool
     ensures { result ≡ contents_ok width letters.now s.now }
 {
-    let n = letters.len();
-    if s.len() / ENTRY < n {
+    if s.len() / ENTRY < letters.len() {
         return false;
     }
-    let mut at = ENTRY * n;
-    for k in 0..n {
-        let letter = s[ENTRY * k];
-        let wanted = letters[k];
-        if letter != wanted {
+    let mut at = ENTRY * letters.len();
+    for (k, &letter) in letters.iter().enumerate() {
+        if s[ENTRY * k] != letter || two_bytes(s, ENTRY * k + 1) != at {
             return false;
         }
-        let offset = two_bytes(s, ENTRY * k + 1);
-        if offset != at {
-            return false;
-        }
-        at = at + two_bytes(s, ENTRY * k + 3);
+        at += two_bytes(s, ENTRY * k + 3);
     }
     at == s.len()
 }
 
 // Where the contents say that body k lies.
+#[tactic(auto, using(crate::proofs::FormLaws::unplaced, crate::proofs::FormLaws::placed_is))]
 pub fn placed(s: &[u8], k: usize) -> Place
     ensures { result ≡ placed_at width s.now k }
 {
     if s.len() / ENTRY < k {
         return Place { at: 0, size: 0 };
     }
-    let start = ENTRY * k;
-    let entry = &s[start..];
+    let entry = &s[ENTRY * k..];
     Place {
         at: two_bytes(entry, 1),
         size: two_bytes(entry, 3),
@@ -94,19 +87,12 @@ pub fn placed(s: &[u8], k: usize) -> Place
 }
 
 // The part of a sheet at a place: how other crates come to the bodies that a reading's layout names.
+#[tactic(auto, unfolding(crate::specs::Form::part_at))]
 pub fn part(s: &[u8], place: Place) -> &[u8]
     ensures { result.now ≡ part_at s.now place }
 {
-    let at = place.at;
-    let size = place.size;
-    if s.len() < at {
-        return &s[..0];
-    }
-    if s.len() - at < size {
-        return &s[at..];
-    }
-    let end = at + size;
-    &s[at..end]
+    let rest = &s[place.at.min(s.len())..];
+    &rest[..place.size.min(rest.len())]
 }
 
 // The body of entry k.

@@ -4,33 +4,32 @@ ghost use Rattle.sheet.specs.code.Arrays.{grid_of, unmark, target_at};
 
 use crate::limits::{ABSENT, ROW, ROWS};
 
+// The grid of targets: a row for each position, a target for each action.
+pub type Grid = [[u16; ROW]; ROWS];
+
 // A line with an action that no row has is left out, so the function is total.
-pub fn grid_of(c: &[u8]) -> [[u16; ROW]; ROWS]
+pub fn grid_of(c: &[u8]) -> Grid
     ensures { result ≡ grid_of c.now }
 {
-    let n = c.len() / 3;
-    let row = [ABSENT; ROW];
-    let mut grid = [row; ROWS];
-    for k in 0..n {
-        let from = usize::from(c[3 * k]);
-        let action = usize::from(c[3 * k + 1]);
-        let to = c[3 * k + 2] as u16;
+    let (lines, _) = c.as_chunks::<3>();
+    let mut grid = [[ABSENT; ROW]; ROWS];
+    for &[from, action, to] in lines {
+        let action = usize::from(action);
         if action < ROW {
-            grid[from][action] = to;
+            grid[usize::from(from)][action] = u16::from(to);
         }
     }
     grid
 }
 
 // The target of action x at position q, as the grid marks it; there is none outside the grid.
-pub fn target(grid: &[[u16; ROW]; ROWS], q: usize, x: usize) -> u16
+#[tactic(auto, unfolding(crate::specs::code::Arrays::target_at, crate::specs::code::Arrays::unmark, theory::specs::Fold::both))]
+pub fn target(grid: &Grid, q: usize, x: usize) -> u16
     ensures { unmark result ≡ target_at grid.now q x }
 {
-    if ROWS <= q {
-        return ABSENT;
+    if q < ROWS && x < ROW {
+        grid[q][x]
+    } else {
+        ABSENT
     }
-    if ROW <= x {
-        return ABSENT;
-    }
-    grid[q][x]
 }

@@ -18,14 +18,12 @@ fn skip_below(u: &[u8], from: usize, q: usize) -> usize
     ensures { result ≡ first_line u.now q }
 {
     let n = line_count(u);
-    let mut line = from;
-    while line < n {
+    for line in from..n {
         if q <= usize::from(u[2 * line]) {
             return line;
         }
-        line += 1;
     }
-    line
+    n
 }
 
 // For each position its first line, or where it would stand; one entry more, for the end of the last.
@@ -34,9 +32,9 @@ pub fn first_lines(u: &[u8]) -> [u16; INDEX]
 {
     let mut firsts = [0u16; INDEX];
     let mut line: usize = 0;
-    for q in 0..INDEX {
+    for (q, first) in firsts.iter_mut().enumerate() {
         line = skip_below(u, line, q);
-        firsts[q] = line as u16;
+        *first = line as u16;
     }
     firsts
 }

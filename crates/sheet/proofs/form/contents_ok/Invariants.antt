@@ -1,6 +1,5 @@
 -- `sheet::form::contents_ok` meets its contract, by the laws of proofs/FormLaws.antt. The loop has passed k right entries, and body k must begin at `at`.
 -- Assumes nothing.
-use Prim.Native.Nat.{◌≤◌}
 use mathlib.Core.Path.{◌≡◌}
 use mathlib.Core.Bool.{true}
 use lib.ListN.{length}
@@ -9,4 +8,4 @@ use Rattle.sheet.specs.Form.{place_of, entry_ok}
 use Rattle.sheet.proofs.form.contents_ok.Given as goal
 
 abbrev pub invariant-loop-k : goal.invariant-loop-k
-invariant-loop-k l = (l.k ≤ length l.letters) × (all_below (entry_ok 2 l.letters l.s) l.k ≡ true) × (l.at ≡ place_of 2 (length l.letters) l.s l.k)
+invariant-loop-k l = (all_below (entry_ok 2 l.letters l.s) l.k ≡ true) × (l.at ≡ place_of 2 (length l.letters) l.s l.k)

@@ -3,14 +3,11 @@ use native.Mathlib.Omega.{arith}
 use Rattle.sheet.proofs.MoveLaws.{index_inside, indexing}
 use Rattle.sheet.proofs.moves.first_lines.Goals as goal
 
-pub overflow_cast-firsts : goal.overflow_cast-firsts
-overflow_cast-firsts c = omega (arith, index_inside _ _ c.skip_below-line.ensures)
+pub overflow_cast-first : goal.overflow_cast-first
+overflow_cast-first c = omega (arith, index_inside _ _ c.skip_below-line.ensures)
 
 pub loop-q-init : goal.loop-q-init
 loop-q-init c = search indexing
-
-pub skip_below-line-requires : goal.skip_below-line-requires
-skip_below-line-requires c = search indexing
 
 pub loop-q-preserved : goal.loop-q-preserved
 loop-q-preserved c = search indexing

@@ -9,4 +9,4 @@ use Rattle.sheet.specs.code.Arrays.{from_below, first_line, line_count, index_en
 use Rattle.sheet.proofs.moves.first_lines.Given as goal
 
 abbrev pub invariant-loop-q : goal.invariant-loop-q
-invariant-loop-q l = (l.q ≤ index_entries) × (l.line ≤ line_count l.u) × (all_below (from_below l.u l.q) l.line ≡ true) × (length l.initial.firsts ≡ index_entries) × (length l.firsts ≡ index_entries) × (l.firsts ≡ filled (first_line l.u) l.q l.initial.firsts)
+invariant-loop-q l = (l.line ≤ line_count l.u) × (all_below (from_below l.u l.q) l.line ≡ true) × (length l.initial.first-items ≡ index_entries) × (length l.first-items ≡ index_entries) × (l.first-items ≡ filled (first_line l.u) l.q l.initial.first-items)

@@ -2,12 +2,6 @@
 use Rattle.sheet.proofs.MoveLaws.{skipping}
 use Rattle.sheet.proofs.moves.skip_below.Goals as goal
 
-pub line_count-n-requires : goal.line_count-n-requires
-line_count-n-requires c = search skipping
-
-pub loop-line-init : goal.loop-line-init
-loop-line-init c = search skipping
-
 pub returns-then-q-from : goal.returns-then-q-from
 returns-then-q-from c = search skipping
 

@@ -1,5 +1,4 @@
 -- `skip_below` meets its contract. Every line passed is of a position below q. Assumes nothing.
-use Prim.Native.Nat.{◌-◌, ◌≤◌}
 use mathlib.Core.Path.{◌≡◌}
 use mathlib.Core.Bool.{true}
 use Rattle.theory.specs.Fold.{all_below}
@@ -7,7 +6,4 @@ use Rattle.sheet.specs.code.Arrays.{from_below, line_count}
 use Rattle.sheet.proofs.moves.skip_below.Given as goal
 
 abbrev pub invariant-loop-line : goal.invariant-loop-line
-invariant-loop-line l = (l.line ≤ line_count l.u) × (all_below (from_below l.u l.q) l.line ≡ true)
-
-abbrev pub decreases-loop-line : goal.decreases-loop-line
-decreases-loop-line l = line_count l.u - l.line
+invariant-loop-line l = (l.n ≡ line_count l.u) × (all_below (from_below l.u l.q) l.line ≡ true)
