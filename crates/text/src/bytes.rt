@@ -1,5 +1,5 @@
 // Bytes, slices of bytes and numbers of two bytes.
-#![tactic(auto, using(crate::proofs::Page::writing), unfolding(crate::specs::Page::puts, crate::specs::Numbers::shorts_text, crate::specs::Numbers::short_at, theory::specs::Bytes::bytes_of))]
+#![tactic(auto, using(crate::proofs::Page::writing), unfolding(crate::proofs::Opened::bytes_open))]
 
 ghost use Rattle.std.specs.Prelude.{◌∷◌, []};
 ghost use Rattle.text.specs.Page.{Puts};

@@ -1,5 +1,5 @@
 // Decimal numbers, words and sets of actions.
-#![tactic(auto, using(crate::proofs::Fields::field_laws), unfolding(crate::specs::Fields::digit_text, crate::specs::Fields::word_text, crate::specs::Fields::action_text, crate::specs::Fields::set_text))]
+#![tactic(auto, using(crate::proofs::Fields::field_laws), unfolding(crate::proofs::Opened::digits_open))]
 
 ghost use Rattle.std.specs.Prelude.{◌≡◌, ◌∷◌, [], ◌/◌, ◌%◌, ◌^◌, ◌<◌};
 ghost use Rattle.theory.specs.Table.{bit};

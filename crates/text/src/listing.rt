@@ -1,5 +1,5 @@
 // The lines of the listing, and the writers of many lines.
-#![tactic(auto, using(crate::proofs::Lines::line_laws), unfolding(crate::specs::Page::puts, crate::specs::Fields::field_text, crate::specs::Fields::position_text, crate::specs::Fields::node_text, crate::specs::Lines::field_line, crate::specs::Lines::refused_line, crate::specs::Lines::losing_line, crate::specs::Lines::winning_line, crate::specs::Lines::head_line, crate::specs::Lines::start_line, crate::specs::Lines::allow_line, crate::specs::Lines::rank_line, crate::specs::Lines::start_entry, crate::specs::Lines::allow_entry, crate::specs::Lines::rank_entry))]
+#![tactic(auto, using(crate::proofs::Lines::line_laws), unfolding(crate::proofs::Opened::lines_open))]
 
 ghost use Rattle.std.specs.Prelude.{ℕ, List};
 ghost use Rattle.text.specs.Page.{Puts, texts_of};
