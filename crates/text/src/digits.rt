@@ -1,11 +1,11 @@
 // Decimal numbers, words and sets of actions.
 #![tactic(auto, using(crate::proofs::Fields::field_laws), unfolding(crate::proofs::Opened::digits_open))]
 
-ghost use Rattle.std.specs.Prelude.{◌≡◌, ◌∷◌, [], ◌/◌, ◌%◌, ◌^◌, ◌<◌};
+ghost use Rattle.std.specs.Prelude.{◌≡◌, ◌∷◌, [], ◌/◌, ◌^◌};
 ghost use Rattle.theory.specs.Table.{bit};
 ghost use Rattle.text.specs.Page.{Puts};
 ghost use Rattle.text.specs.Numbers.{glyph, decimal_of};
-ghost use Rattle.text.specs.Fields.{digit_text, word_text, action_text, set_text};
+ghost use Rattle.text.specs.Fields.{word_text, set_text};
 
 use super::buffer::Page;
 
@@ -61,15 +61,6 @@ impl Page<'_> {
         self.put_glyph(n % 10);
     }
 
-    fn put_digit(&mut self, form: Form, word: usize, i: usize)
-        requires { i < form.count }
-        ensures { Puts self.old (digit_text form.actions form.count word i) self.new }
-    {
-        let younger = form.count - 1 - i;
-        let shown = without_last(word, form.actions, younger);
-        self.put_glyph(shown.checked_rem(form.actions).unwrap_or(shown));
-    }
-
     // A word, oldest action first.
     pub fn put_word(&mut self, form: Form, word: usize)
         ensures { Puts self.old (word_text form.actions form.count word) self.new }
@@ -78,15 +69,8 @@ impl Page<'_> {
             return self.put_byte(b'-');
         }
         for i in 0..form.count {
-            self.put_digit(form, word, i);
-        }
-    }
-
-    fn put_action(&mut self, mask: usize, c: usize)
-        ensures { Puts self.old (action_text mask c) self.new }
-    {
-        if has_action(mask, c) {
-            self.put_glyph(c);
+            let shown = without_last(word, form.actions, form.count - 1 - i);
+            self.put_glyph(shown.checked_rem(form.actions).unwrap_or(shown));
         }
     }
 
@@ -95,7 +79,9 @@ impl Page<'_> {
         ensures { Puts self.old (set_text actions mask) self.new }
     {
         for c in 0..actions {
-            self.put_action(mask, c);
+            if has_action(mask, c) {
+                self.put_glyph(c);
+            }
         }
     }
 }

@@ -3,7 +3,7 @@
 
 ghost use Rattle.std.specs.Prelude.{ℕ, List};
 ghost use Rattle.text.specs.Page.{Puts, texts_of};
-ghost use Rattle.text.specs.Fields.{field_text, position_text, node_text};
+ghost use Rattle.text.specs.Fields.{field_text, node_text};
 ghost use Rattle.text.specs.Lines.{field_line, refused_line, losing_line, winning_line, head_line, start_line, allow_line, rank_line};
 ghost use Rattle.text.specs.Lines.{start_lines, allow_lines, rank_lines};
 
@@ -60,18 +60,12 @@ impl Page<'_> {
         self.put_byte(b'\n');
     }
 
-    fn put_position(&mut self, form: Form, node: usize)
-        ensures { Puts self.old (position_text form.actions form.count node) self.new }
-    {
-        self.put_field(b"pair ", without_last(node, form.actions, form.count));
-        self.put_byte(b' ');
-    }
-
     // Of the node's number the last digits are its word, so `put_word` is given the number itself.
     fn put_node(&mut self, form: Form, node: usize)
         ensures { Puts self.old (node_text form.actions form.count node) self.new }
     {
-        self.put_position(form, node);
+        self.put_field(b"pair ", without_last(node, form.actions, form.count));
+        self.put_byte(b' ');
         self.put_word(form, node);
     }
 
