@@ -21,7 +21,7 @@ use Rattle.text.specs.Page.{texts_from}
 use Rattle.text.specs.Numbers.{glyph, decimal_of}
 use Rattle.text.specs.Fields.{digit_text, word_text, action_text, set_text, field_text, position_text, node_text}
 use Rattle.text.proofs.Page.{writing, texts_same, length_texts}
-use Rattle.text.proofs.Numbers.{decimal_one, decimal_more, length_decimal}
+use Rattle.text.proofs.Numbers.{decimal_is, length_decimal}
 
 -- one digit less
 pub divided_again : (n base k : ℕ) → n / base ^ (k + 1) ≡ n / base ^ k / base
@@ -116,7 +116,7 @@ unfolding word_text
 word_last a l v = ap (cond (eqb l 0) (ascii "-")) (texts_same _ _ 0 l (λ i. digit_last a l v i))
 
 -- as the code asks them
-pub ruleset field_laws = (writing, decimal_one, decimal_more, digit_is, word_last, divided_none, divided_again, div-zero, mod-zero)
+pub ruleset field_laws = (writing, decimal_is, digit_is, word_last, divided_none, divided_again, div-zero, mod-zero)
 
 -- lengths
 

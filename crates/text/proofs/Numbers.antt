@@ -1,6 +1,6 @@
 -- Laws of specs/Numbers.antt: decimal numbers digit by digit, numbers of two bytes, and how long their texts are.
 -- Assumes nothing.
-use Prim.Native.Nat.{ℕ, zero, suc, ◌*◌, ◌/◌, ◌%◌, ◌^◌, ◌≤◌, ◌<◌}
+use Prim.Native.Nat.{ℕ, zero, suc, ◌+◌, ◌*◌, ◌/◌, ◌%◌, ◌^◌, ◌≤◌, ◌<◌}
 use mathlib.Core.Path.{◌≡◌, refl, sym, ap, ◌∙◌}
 use mathlib.Core.Logic.{⊎_elim}
 use mathlib.Core.List.{List, [], ◌∷◌, ◌++◌}
@@ -8,6 +8,8 @@ use native.Mathlib.Omega.{arith}
 use native.Mathlib.Nat.{pow-suc}
 use lib.ListN.{length, get_or, length-append}
 use borrow.Author.Tests.{lt-ltb, le-ltb}
+use Rattle.std.specs.Fmt.{decimal}
+use Rattle.std.proofs.lemmas.Fmt.{decimal_by_steps}
 use Rattle.theory.proofs.Fold.{below?}
 use Rattle.text.specs.Numbers.{glyph, decimal_by, decimal_of, short_at, shorts_text}
 use Rattle.theory.specs.Bytes.{bytes_of}
@@ -45,6 +47,18 @@ unfolding decimal_of
 decimal_more n h =
     by_more n n h
     ∙ ap (λ t. t ++ (glyph (n % 10) ∷ [])) (by_any n (suc (n / 10)) (n / 10) (omega arith) (omega arith))
+
+-- the digits that the library prints
+
+glyph_digit : (d : ℕ) → d < 10 → 48 + d ≡ glyph d
+unfolding glyph
+glyph_digit d h = simp (lt-ltb d 10 h)
+
+pub decimal_is : (n : ℕ) → n < 2 ^ 64 → decimal n ≡ decimal_of n
+decimal_is =
+    decimal_by_steps (λ n ds. ds ≡ decimal_of n)
+    (λ n h. ap (λ u. u ∷ []) (glyph_digit n h) ∙ sym (decimal_one n h))
+    (λ n ds h e. rw (decimal_more n h, e, glyph_digit (n % 10) (omega arith)))
 
 -- lengths
 

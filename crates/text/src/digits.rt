@@ -8,6 +8,7 @@ ghost use Rattle.text.specs.Numbers.{glyph, decimal_of};
 ghost use Rattle.text.specs.Fields.{word_text, set_text};
 
 use super::buffer::Page;
+use itoa::Buffer;
 
 // The form of a node's word: out of how many actions its digits are, and how many it has.
 #[derive(Clone, Copy)]
@@ -55,10 +56,8 @@ impl Page<'_> {
     pub fn put_number(&mut self, n: usize)
         ensures { Puts self.old (decimal_of n) self.new }
     {
-        if n >= 10 {
-            self.put_number(n / 10);
-        }
-        self.put_glyph(n % 10);
+        let mut buffer = Buffer::new();
+        self.put_text(buffer.format(n).as_bytes());
     }
 
     // A word, oldest action first.
