@@ -1,8 +1,9 @@
 // Decimal numbers, words and sets of actions.
 #![tactic(auto, using(crate::proofs::Fields::field_laws), unfolding(crate::proofs::Opened::digits_open))]
 
-ghost use Rattle.std.specs.Prelude.{◌≡◌, ◌∷◌, [], ◌/◌, ◌^◌};
+ghost use Rattle.std.specs.Prelude.{◌≡◌, ◌∷◌, [], ◌/◌, ◌^◌, ◌<◌};
 ghost use Rattle.theory.specs.Table.{bit};
+ghost use Rattle.theory.specs.Words.{digit};
 ghost use Rattle.text.specs.Page.{Puts};
 ghost use Rattle.text.specs.Numbers.{glyph, decimal_of};
 ghost use Rattle.text.specs.Fields.{word_text, set_text};
@@ -10,7 +11,7 @@ ghost use Rattle.text.specs.Fields.{word_text, set_text};
 use super::buffer::Page;
 use itoa::Buffer;
 
-// The form of a node's word: out of how many actions its digits are, and how many it has.
+// The form of a node: of how many actions its word has digits, and how many it has.
 #[derive(Clone, Copy)]
 pub struct Form {
     pub actions: usize,
@@ -29,7 +30,7 @@ fn glyph_of(d: usize) -> u8
 }
 
 // A number without its last digits in a base.
-pub(crate) fn without_last(n: usize, base: usize, count: usize) -> usize
+fn without_last(n: usize, base: usize, count: usize) -> usize
     ensures { result ≡ n / base ^ count }
 {
     let mut rest = n;
@@ -37,6 +38,24 @@ pub(crate) fn without_last(n: usize, base: usize, count: usize) -> usize
         rest = rest.checked_div(base).unwrap_or(0);
     }
     rest
+}
+
+impl Form {
+    // The action at an index of a word, the oldest first.
+    fn action(self, word: usize, i: usize) -> usize
+        requires { i < self.count }
+        ensures { result ≡ digit self.actions self.count word i }
+    {
+        let shown = without_last(word, self.actions, self.count - 1 - i);
+        shown.checked_rem(self.actions).unwrap_or(shown)
+    }
+
+    // The position of a node: its number without its word.
+    pub(crate) fn position(self, node: usize) -> usize
+        ensures { result ≡ node / self.actions ^ self.count }
+    {
+        without_last(node, self.actions, self.count)
+    }
 }
 
 #[tactic(auto, unfolding(theory::specs::Table::bit))]
@@ -68,8 +87,7 @@ impl Page<'_> {
             return self.put_byte(b'-');
         }
         for i in 0..form.count {
-            let shown = without_last(word, form.actions, form.count - 1 - i);
-            self.put_glyph(shown.checked_rem(form.actions).unwrap_or(shown));
+            self.put_glyph(form.action(word, i));
         }
     }
 

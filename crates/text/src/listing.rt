@@ -8,7 +8,7 @@ ghost use Rattle.text.specs.Lines.{field_line, refused_line, losing_line, winnin
 ghost use Rattle.text.specs.Lines.{start_lines, allow_lines, rank_lines};
 
 use super::buffer::Page;
-use super::digits::{Form, without_last};
+use super::digits::Form;
 
 impl Page<'_> {
     fn put_field(&mut self, name: &[u8], n: usize)
@@ -64,7 +64,7 @@ impl Page<'_> {
     fn put_node(&mut self, form: Form, node: usize)
         ensures { Puts self.old (node_text form.actions form.count node) self.new }
     {
-        self.put_field(b"pair ", without_last(node, form.actions, form.count));
+        self.put_field(b"pair ", form.position(node));
         self.put_byte(b' ');
         self.put_word(form, node);
     }
