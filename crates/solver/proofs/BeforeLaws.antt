@@ -13,7 +13,7 @@ use Rattle.theory.specs.Rounds.{bad, spoilt_by}
 use Rattle.theory.specs.Delay.{with_word, moved_to, played_to, outcomes, step, arena_by}
 use Rattle.theory.proofs.Fold.{bool, any_of_holds}
 use Rattle.theory.proofs.Turns.{to_injective, absent_not_to, played_move}
-use Rattle.solver.specs.declared.spread.Spot.{Spot}
+use Rattle.solver.specs.code.Spread.{Spot}
 use Rattle.solver.specs.code.Chains.{chain, head_of}
 use Rattle.solver.specs.code.Spread.{caller_at, word_at, callers, source_at, sources, gather, even_nodes, odd_nodes}
 use Rattle.solver.specs.code.Sweep.{Index, nodes_before, Reverses}

@@ -131,14 +131,14 @@ pub ruleset blocking = (rules, row_fits, blocked_wrong, blocked_unsafe, blocked_
 
 -- a row, and the loop over the rows
 module _ (E : Arena) (younger : ℕ) where
-  pub block_passed : (w : Work) (b : ℕ) {t : Bool} → t ≡ blocked_at E (b * younger) → not t ≡ true → w ≡ block_to E younger w b
+  pub block_passed : (w : Work) (b : ℕ) {t : Bool} → t ≡ blocked_at E (b * younger) → t ≡ false → w ≡ block_to E younger w b
   unfolding block_to
-  block_passed w b e n = rw (sym e ∙ not-true _ n)
+  block_passed w b e n = rw (sym e ∙ n)
 
-  pub block_fallen : (w : Work) (b : ℕ) {v : Work} {t : Bool} → t ≡ blocked_at E (b * younger) → not t ≡ false → v ≡ spoil_row_to 1 w (b * younger) younger
+  pub block_fallen : (w : Work) (b : ℕ) {v : Work} {t : Bool} → t ≡ blocked_at E (b * younger) → t ≡ true → v ≡ spoil_row_to 1 w (b * younger) younger
       → v ≡ block_to E younger w b
   unfolding block_to
-  block_fallen w b e n r = r ∙ rw (sym e ∙ not-false _ n)
+  block_fallen w b e n r = r ∙ rw (sym e ∙ n)
 
   pub blocks_again : (w : Work) (b rows : ℕ) {x v : Work} → x ≡ blocks_to E younger w b (rows - b) → b < rows → v ≡ block_to E younger w b
       → x ≡ blocks_to E younger v (b + 1) (rows - (b + 1))
@@ -153,10 +153,3 @@ module _ (E : Arena) (younger : ℕ) where
 
   pub blocks_start : (w : Work) (rows : ℕ) → blocks_to E younger w 0 rows ≡ blocks_to E younger w 0 (rows - 0)
   blocks_start w rows = let c : rows - 0 ≡ rows = omega arith in rw c
-
-pub rows_fit : (positions : ℕ) (l : Level) → Sized positions l → Fits w64 (positions * l.actions)
-rows_fit positions l sized =
-    let r : positions * l.actions ≤ 256 * 8 = mul-le-mul sized.few_positions sized.few_actions in
-    record { fits = omega arith }
-
-pub ruleset one_block = (rules, row_fits, row_whole, block_passed, block_fallen)

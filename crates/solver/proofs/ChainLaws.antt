@@ -1,5 +1,5 @@
 -- Chains visit exactly the places of their key. Assumes nothing.
-use Prim.Native.Nat.{ℕ, zero, suc, ◌+◌, ◌*◌, ◌/◌, ◌%◌, ◌≤◌, ◌<◌}
+use Prim.Native.Nat.{ℕ, zero, suc, ◌+◌, ◌-◌, ◌*◌, ◌/◌, ◌%◌, ◌≤◌, ◌<◌}
 use mathlib.Core.Path.{◌≡◌, refl, sym, ◌∙◌, ap}
 use mathlib.Core.Bool.{true, false}
 use mathlib.Core.Logic.{⊎_elim}
@@ -7,14 +7,14 @@ use mathlib.Core.List.{List, [], ◌∷◌, Memᴰ}
 use native.Mathlib.Omega.{arith}
 use native.Mathlib.Numerals.{add-one}
 use lib.Dec.{eqb}
-use lib.ListN.{length, get_or, set, length-set, get_or-eq_default}
+use lib.ListN.{length, replicate, get_or, set, length-set, get_or-eq_default}
 use lib.Seq.{set_out, get_or-set_same, get_or-set_other}
 use borrow.Author.Rules.{rules}
 use borrow.Author.Tests.{eq-eqb, ne_eqb, lt-ltb, le-ltb}
 use Rattle.theory.proofs.Fold.{bool, same?, below?}
 use Rattle.sheet.specs.Limits.{most_moves}
 use Rattle.solver.specs.code.Sizes.{most_cells}
-use Rattle.solver.specs.code.Chains.{last_of, chain_of, chain, head_of, Chains, Linked, cell_key, Indexed}
+use Rattle.solver.specs.code.Chains.{last_of, chain_of, chain, head_of, Chains, Linked, cell_key}
 use Rattle.theory.specs.Game.{absent, to}
 use Rattle.sheet.specs.code.Arrays.{index_entries, absent_mark, mark_of, unmark, target_at, to_at, line_count}
 use Rattle.sheet.proofs.GridLaws.{unmark_absent, unmark_to}
@@ -58,6 +58,17 @@ module _ (links : List ℕ) (down : (i : ℕ) → get_or links i 0 ≤ i) where
   pub chain_next : (i : ℕ) → chain links (suc i) ≡ i ∷ chain links (get_or links i 0)
   unfolding chain chain_of
   chain_next i = ap (λ (c : List ℕ). i ∷ c) (fuel_same i (get_or links i 0) (get_or links i 0) (down i) (omega arith))
+
+-- arrays of zeros link nothing
+pub zeros : (n k : ℕ) → get_or (replicate {A = ℕ} n 0) k 0 ≡ 0
+zeros zero k = refl
+zeros (suc n) zero = refl
+zeros (suc n) (suc k) = zeros n k
+
+-- a chain that is not at its end
+pub chain_step : (links : List ℕ) (e : ℕ) → ((i : ℕ) → get_or links i 0 ≤ i) → (e ≡ 0 → ⊥) → chain links e ≡ (e - 1) ∷ chain links (get_or links (e - 1) 0)
+chain_step links zero d z = absurd (z refl)
+chain_step links (suc i) d z = let q : suc i - 1 ≡ i = omega arith in rw q (chain_next links d i)
 
 pub chain_end : (links : List ℕ) → chain links 0 ≡ []
 unfolding chain chain_of
@@ -220,34 +231,10 @@ cell_mark g i {t} e f = f ∙ sym (mark_unmark t) ∙ ap mark_of e
         (λ q. rw (unmark_to q) (marked_to t))
         (same? t absent_mark)
 
-pub linked_again : (key : ℕ → ℕ) (n : ℕ) {heads links h l : List ℕ} {x : ℕ} → Linked key n heads links → n < length links → x ≡ key n
-    → (h ≡ set heads x (n + 1)) × (l ≡ set links n (get_or heads x 0)) → Linked key (n + 1) h l
-linked_again key n {heads} {links} ix room e q = rw (q.0, q.1) (linked_next key n heads links ix room e)
-
-pub linked_done : (key : ℕ → ℕ) (i n : ℕ) {heads links : List ℕ} → Linked key i heads links → i ≤ n → n ≤ i → Linked key n heads links
-linked_done key i n ix a b = let e : i ≡ n = omega arith in rw e at ix
+pub linked_pushed : (key : ℕ → ℕ) (n i : ℕ) (heads links : List ℕ) {h l : List ℕ} {x : ℕ} → Linked key i heads links → n ≡ i → i < length links → x ≡ key i
+    → h ≡ set heads x (n + 1) → l ≡ set links n (get_or heads x 0) → Linked key (i + 1) h l
+linked_pushed key n i heads links ix e room k p q = rw (p, q, e) (linked_next key i heads links ix room k)
 
 pub to_key : (u : List ℕ) (i : ℕ) {x b : ℕ} → x ≡ b → b ≡ get_or u (2 * i + 1) 0 → x ≡ to_at u i
 unfolding to_at
 to_key u i e f = e ∙ f
-
-module _ (u : List ℕ) (g : List (List ℕ)) (delay : ℕ) {reaching lines leading cells : List ℕ} where
-  pub index_none : Linked (to_at u) 0 reaching lines → Linked (cell_key g) 0 leading cells → delay < 2 → Indexed u g delay reaching lines leading cells
-  index_none a b h =
-      record {
-        line_chains = linked_chains (to_at u) 0 most_moves reaching lines a (omega arith);
-        cell_chains = linked_chains (cell_key g) 0 most_cells leading cells b (omega arith);
-        lines_linked = λ d. absurd (omega arith);
-        cells_linked = λ d. absurd (omega arith);
-      }
-
-  pub index_both : Linked (to_at u) (line_count u) reaching lines → Linked (cell_key g) most_cells leading cells → Indexed u g delay reaching lines leading cells
-  index_both a b =
-      record {
-        line_chains = linked_chains (to_at u) (line_count u) most_moves reaching lines a (omega arith);
-        cell_chains = linked_chains (cell_key g) most_cells most_cells leading cells b (omega arith);
-        lines_linked = λ d. a;
-        cells_linked = λ d. b;
-      }
-
-pub ruleset indexing = (rules, index_none, index_both)

@@ -1,5 +1,5 @@
 -- Round 1 (src/first.rt), node by node. Assumes nothing.
-use Prim.Native.Nat.{ℕ, suc, ◌+◌, ◌*◌, ◌/◌, ◌≤◌, ◌<◌}
+use Prim.Native.Nat.{ℕ, suc, ◌+◌, ◌-◌, ◌*◌, ◌/◌, ◌≤◌, ◌<◌}
 use mathlib.Core.Path.{◌≡◌, refl, sym, ◌∙◌, ap}
 use mathlib.Core.Bool.{Bool, true, false, not, cond}
 use mathlib.Core.Logic.{◌⊎◌, ⊎_elim}
@@ -18,31 +18,8 @@ use Rattle.sheet.specs.Kinds.{controller_at, safe_at}
 use Rattle.walk.specs.declared.level.Level.{Level}
 use Rattle.walk.specs.code.Nodes.{Sized}
 use Rattle.sheet.specs.Limits.{most_nodes}
-use Rattle.solver.specs.code.Work.{Work, work}
+use Rattle.solver.specs.code.Work.{Work, Lent, work}
 use Rattle.solver.specs.code.First.{row_falls, row_mask, stand_below, Placed}
-
-module _ (p : List ℕ) (q : ℕ) where
-  pub falls_wrong : (odd : Bool) {r : Bool} → r ≡ on_right odd (controller_at p) q → not r ≡ true → false ≡ row_falls odd p q
-  unfolding row_falls
-  falls_wrong odd e n = sym (both_none _ _ (sym e ∙ not-true _ n))
-
-  pub falls_right : (odd : Bool) {r s : Bool} → r ≡ on_right odd (controller_at p) q → not r ≡ false → s ≡ safe_at p q → not s ≡ row_falls odd p q
-  unfolding row_falls
-  falls_right odd e n f = ap not f ∙ sym (both_second _ _ (sym e ∙ not-false _ n))
-
-  pub mask_wrong : (odd : Bool) {r : Bool} (full : ℕ) → r ≡ on_right odd (controller_at p) q → not r ≡ true → 0 ≡ row_mask odd p full q
-  unfolding row_mask
-  mask_wrong odd full e n = rw (both_none (on_right odd (controller_at p) q) (safe_at p q) (sym e ∙ not-true _ n))
-
-  pub mask_unsafe : (odd : Bool) {r s : Bool} (full : ℕ) → r ≡ on_right odd (controller_at p) q → not r ≡ false → s ≡ safe_at p q → not s ≡ true → 0 ≡ row_mask odd p full q
-  unfolding row_mask
-  mask_unsafe odd full e n f t = rw (both_second (on_right odd (controller_at p) q) (safe_at p q) (sym e ∙ not-false _ n), sym f ∙ not-true _ t)
-
-  pub mask_safe : (odd : Bool) {r s : Bool} (full : ℕ) → r ≡ on_right odd (controller_at p) q → not r ≡ false → s ≡ safe_at p q → not s ≡ false → full ≡ row_mask odd p full q
-  unfolding row_mask
-  mask_safe odd full e n f t = rw (both_second (on_right odd (controller_at p) q) (safe_at p q) (sym e ∙ not-false _ n), sym f ∙ not-false _ t)
-
-pub ruleset rows = (rules, falls_wrong, falls_right, mask_wrong, mask_unsafe, mask_safe)
 
 -- the nodes that stand, counted
 
@@ -138,78 +115,68 @@ module _ (p : List ℕ) (l : Level) (full k : ℕ) (w : Work) (placed : Placed p
         count = count_stood p l k w.tail f placed.count;
       }
 
--- the loop over the nodes of row q
+-- a node of row q
+module _ (p : List ℕ) (l : Level) (full q k : ℕ) (w : Work) (sized : Sized (length p) l) (h : q < length p) (a : q * l.words ≤ k)
+    (b : k < q * l.words + l.words) (placed : Placed p l full k w) where
+  row_inside : k < l.nodes
+  row_inside =
+      let e : q * l.words + (k - q * l.words) ≡ k = omega arith in
+      let i = row_node (length p) l sized q (k - q * l.words) h (omega arith) in
+      omega arith
 
-pub row_start : {p : List ℕ} {l : Level} {full k : ℕ} {w : Work} → Placed p l full k w → Placed p l full (k + 0) w
-row_start {k = k} placed = let e : k + 0 ≡ k = omega arith in rw e placed
+  -- what there is room for
+  pub row_room : record {
+    inside : k < l.nodes;
+    few : l.nodes ≤ most_nodes;
+    behind : w.tail ≤ k;
+    ranks : length w.ranks ≡ l.nodes;
+    masks : length w.masks ≡ l.nodes;
+    queue : length w.queue ≡ l.nodes;
+  }
+  row_room =
+      record {
+        inside = row_inside;
+        few = sized.few_nodes;
+        behind = tail_le p l full k w placed row_inside;
+        ranks = placed.ranks_size;
+        masks = placed.masks_size;
+        queue = placed.queue_size;
+      }
 
-pub row_done : {p : List ℕ} {l : Level} {full : ℕ} {w : Work} (k i m : ℕ) → i ≤ m → m ≤ i → Placed p l full (k + i) w → Placed p l full (k + m) w
-row_done k i m a b placed = let e : i ≡ m = omega arith in rw e at placed
+  in_row : k / l.words ≡ q
+  in_row =
+      let e : k ≡ q * l.words + (k - q * l.words) = omega arith in
+      let i : k - q * l.words < l.words = omega arith in
+      ap (λ (x : ℕ). x / l.words) e ∙ digits_div q i
 
--- what there is room for at a node of row q
-pub row_room : (p : List ℕ) (l : Level) (full q i : ℕ) → Sized (length p) l → q < length p → i < l.words → (w : Work)
-    → Placed p l full (q * l.words + i) w
-    → record {
-      inside : q * l.words + i < l.nodes;
-      few : l.nodes ≤ most_nodes;
-      behind : w.tail ≤ q * l.words + i;
-      ranks : length w.ranks ≡ l.nodes;
-      masks : length w.masks ≡ l.nodes;
-      queue : length w.queue ≡ l.nodes;
-    }
-row_room p l full q i sized h a w placed =
-    let k = row_node (length p) l sized q i h a in
-    record {
-      inside = k;
-      few = sized.few_nodes;
-      behind = tail_le p l full (q * l.words + i) w placed k;
-      ranks = placed.ranks_size;
-      masks = placed.masks_size;
-      queue = placed.queue_size;
-    }
+  module _ {r : Bool} {mask : ℕ} (e : r ≡ row_falls l.odd p q) (m : mask ≡ row_mask l.odd p full q) where
+    pub row_fallen : r ≡ true → Placed p l full (k + 1) (work (set w.ranks k 1) (set w.masks k mask) (set w.queue w.tail k) (w.tail + 1))
+    row_fallen t = place_falls p l full k w placed row_inside (rw in_row e) t (rw in_row m)
 
-module _ (p : List ℕ) (l : Level) (full q i : ℕ) (w : Work) (sized : Sized (length p) l) (h : q < length p) (a : i < l.words)
-    (placed : Placed p l full (q * l.words + i) w) {r : Bool} {mask : ℕ} (e : r ≡ row_falls l.odd p q) (m : mask ≡ row_mask l.odd p full q) where
-  in_row : (q * l.words + i) / l.words ≡ q
-  in_row = digits_div q a
+    pub row_stands : r ≡ false → Placed p l full (k + 1) (work (set w.ranks k 0) (set w.masks k mask) w.queue w.tail)
+    row_stands t = place_stands p l full k w placed row_inside (rw in_row e) t (rw in_row m)
 
-  next : q * l.words + i + 1 ≡ q * l.words + (i + 1)
-  next = omega arith
-
-  pub row_falls_lem : r ≡ true
-      → Placed p l full (q * l.words + (i + 1))
-      (work (set w.ranks (q * l.words + i) 1) (set w.masks (q * l.words + i) mask) (set w.queue w.tail (q * l.words + i)) (w.tail + 1))
-  row_falls_lem t =
-      let f : r ≡ row_falls l.odd p ((q * l.words + i) / l.words) = rw in_row e in
-      let k : mask ≡ row_mask l.odd p full ((q * l.words + i) / l.words) = rw in_row m in
-      rw next at (place_falls p l full (q * l.words + i) w placed (row_node (length p) l sized q i h a) f t k)
-
-  pub row_stands : r ≡ false
-      → Placed p l full (q * l.words + (i + 1)) (work (set w.ranks (q * l.words + i) 0) (set w.masks (q * l.words + i) mask) w.queue w.tail)
-  row_stands t =
-      let f : r ≡ row_falls l.odd p ((q * l.words + i) / l.words) = rw in_row e in
-      let k : mask ≡ row_mask l.odd p full ((q * l.words + i) / l.words) = rw in_row m in
-      rw next at (place_stands p l full (q * l.words + i) w placed (row_node (length p) l sized q i h a) f t k)
+pub row_done : {p : List ℕ} {l : Level} {full : ℕ} {w : Work} (k m : ℕ) → k ≤ m → m ≤ k → Placed p l full k w → Placed p l full m w
+row_done k m a b placed = let e : k ≡ m = omega arith in rw e at placed
 
 -- the loop over the rows
 
 module _ (p : List ℕ) (l : Level) (full : ℕ) where
-  pub rows_start : {ranks masks queue : List ℕ} → length ranks ≡ l.nodes → length masks ≡ l.nodes → length queue ≡ l.nodes
-      → Placed p l full (0 * l.words) (work ranks masks queue 0)
+  pub rows_start : (w : Work) → Lent w.ranks w.masks w.queue → length w.masks ≡ l.nodes → w.tail ≡ 0 → Placed p l full (0 * l.words) w
   unfolding stand_below
-  rows_start a b c =
+  rows_start w lent b t =
       let z : 0 * l.words ≡ 0 = omega arith in
       rw z
       (record {
-        ranks_size = a;
+        ranks_size = lent.ranks_size ∙ b;
         masks_size = b;
-        queue_size = c;
+        queue_size = lent.queue_size ∙ b;
         ranks = λ j h. absurd (omega arith);
         masks = λ j h. absurd (omega arith);
         node = λ i h. absurd (omega arith);
         fallen = λ i h. absurd (omega arith);
         every = λ j h e. absurd (omega arith);
-        count = refl;
+        count = omega arith;
       })
 
   pub rows_again : (q : ℕ) (w : Work) → Placed p l full (q * l.words + l.words) w → Placed p l full ((q + 1) * l.words) w

@@ -51,7 +51,3 @@ masks_all p g u f l n ranks before sized most e made =
     ∙ ap
     (λ (t : ℕ → Bool). tabulate (λ k. cond (kept E ranks k) (mask_below (λ c. not (spoilt_by E t k c)) E.actions) 0) 0 E.nodes)
     (fallen_all n ranks most)
-
-pub ruleset leveling = (rules, level_rounds, level_worked)
-
-pub ruleset masking = (rules, masks_all)

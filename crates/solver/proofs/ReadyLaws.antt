@@ -16,7 +16,7 @@ use Rattle.theory.specs.Table.{bit}
 use Rattle.theory.proofs.Fold.{below?, same?}
 use Rattle.theory.proofs.Rounds.{fell_true, fell_rank, fell_node, rank_le}
 use Rattle.walk.specs.declared.level.Level.{Level}
-use Rattle.solver.specs.declared.spread.Spot.{Spot}
+use Rattle.solver.specs.code.Spread.{Spot}
 use Rattle.solver.specs.code.Work.{Work, marks_to}
 use Rattle.solver.specs.code.Sweep.{Index, Fitted, nodes_before, spread_to, sweep_to, Reverses}
 use Rattle.solver.proofs.StateLaws.{rank_of, mask_of, entry_of, Fresh, Good, Goes, goes_none, goes_on, marks_goes}

@@ -25,6 +25,7 @@ use Rattle.rounds.specs.code.Falling.{AtMost}
 use Rattle.walk.specs.code.Levels.{Room, level_at, level_to}
 use Rattle.region.specs.code.Kept.{good_in, first_words, some_good}
 use Rattle.solver.specs.Solving.{solved_delay}
+use Rattle.solver.specs.code.Sweep.{Index}
 use Rattle.solver.specs.code.Working.{Levelable}
 use Rattle.solver.proofs.SheetLaws.{levelable}
 use Rattle.solver.specs.code.Search.{verdict_by, Stopped, Leveled, MasksStopped, Searchable}
@@ -69,8 +70,9 @@ module _ (p : List ℕ) (g : List (List ℕ)) (u f : List ℕ) (start actions de
   level_here : {l : Level} → l ≡ level_to (length p) start actions d → Sized (length p) l
   level_here made = rw (whole made) (level_sized room_here start)
 
-  start_here : {l : Level} → l ≡ level_to (length p) start actions d → start < 256 → l.start < most_positions
-  start_here made h = rw made (omega arith)
+  start_here : {l : Level} → l ≡ level_to (length p) start actions d → l.start < most_positions
+  unfolding view_of
+  start_here made = let s = legal.start_position in let f = room.few_positions in rw made (omega arith)
 
   pub fits_here : {l : Level} → l ≡ level_to (length p) start actions d → l.nodes ≤ length old
   fits_here made = rw (whole made) fit
@@ -129,45 +131,45 @@ module _ (p : List ℕ) (g : List (List ℕ)) (u f : List ℕ) (start actions de
     most_here : AtMost n (final_ranks (arena G d))
     most_here = rw (← ranks_here) ranked.most
 
-    module _ {r : Bool} (low : start < 256) (some : r ≡ some_good p g l (take l.nodes after)) where
+    module _ {r : Bool} (some : r ≡ some_good p g l (take l.nodes after)) where
       tested : r ≡ winning G d
       tested =
           winning_is p g u f start actions d ranks_here
-          (good_known p g l _ (level_here made) (start_here made low) some
+          (good_known p g l _ (level_here made) (start_here made) some
           ∙ ap (λ x. any_below (good_in p g l x) (first_words l)) front_here
           ∙ ap (λ x. any_below (good_in p g x ranks) (first_words x)) is)
 
-      lost_answer : not r ≡ true → answer G delay ≡ losing d
-      lost_answer x = answer_found G legal delay d searched.asked searched.won (sym tested ∙ not-true r x)
+      lost_answer : r ≡ false → answer G delay ≡ losing d
+      lost_answer x = answer_found G legal delay d searched.asked searched.won (sym tested ∙ x)
 
-      pub stops_lost : not r ≡ true → Stopped G delay before after (record { wins = false; delay = d; rounds = n })
+      pub stops_lost : r ≡ false → Stopped G delay before after (record { wins = r; delay = d; rounds = n })
       unfolding verdict_by solved_delay
       stops_lost x =
           record {
-            verdict = sym (lost_answer x);
+            verdict = ap (λ w. verdict_by w d) x ∙ sym (lost_answer x);
             delay = sym (ap (solved_delay delay) (lost_answer x));
             ranks = after_over;
             rounds = most_here;
           }
 
-      won_here : not r ≡ false → winning G d ≡ true
-      won_here x = sym tested ∙ not-false r x
+      won_here : r ≡ true → winning G d ≡ true
+      won_here x = sym tested ∙ x
 
-      won_answer : not r ≡ false → d ≡ delay → answer G delay ≡ wins
+      won_answer : r ≡ true → d ≡ delay → answer G delay ≡ wins
       won_answer x e = ap (answer G) (sym e) ∙ answer_wins G legal d (won_here x)
 
-      pub stops_won : not r ≡ false → d ≡ delay → Stopped G delay before after (record { wins = true; delay = d; rounds = n })
+      pub stops_won : r ≡ true → d ≡ delay → Stopped G delay before after (record { wins = r; delay = d; rounds = n })
       unfolding verdict_by solved_delay
       stops_won x e =
           record {
-            verdict = sym (won_answer x e);
+            verdict = ap (λ w. verdict_by w d) x ∙ sym (won_answer x e);
             delay = e ∙ sym (ap (solved_delay delay) (won_answer x e));
             ranks = after_over;
             rounds = most_here;
           }
 
       -- on to the next delay, which has no fewer nodes
-      pub searched_next : not r ≡ false → (d ≡ delay → ⊥)
+      pub searched_next : r ≡ true → (d ≡ delay → ⊥)
           → Searched G (nodes_of (length p) actions (d + 1)) delay (d + 1) before after
       searched_next x e =
           let a = searched.asked in
@@ -197,13 +199,13 @@ module _ (p : List ℕ) (g : List (List ℕ)) (u f : List ℕ) (start actions de
               ∙ ap (λ x. drop x before) (sym q)
 
 -- the level can be solved
-pub level_can : (p : List ℕ) (g : List (List ℕ)) (u f reaching lines leading cells : List ℕ) (start actions delay : ℕ) (masks before old : List ℕ) (d : ℕ)
-    → Searchable p g u f reaching lines leading cells start actions delay masks before
+pub level_can : (p : List ℕ) (g : List (List ℕ)) (u f : List ℕ) (x : Index) (start actions delay : ℕ) (masks before old : List ℕ) (d : ℕ)
+    → Searchable p g u f x start actions delay masks before
     → Searched (view_of p g u f start actions) (nodes_of (length p) actions d) delay d before old → {l : Level}
-    → l ≡ level_to (length p) start actions d → Levelable p g u f reaching lines leading cells l
-level_can p g u f reaching lines leading cells start actions delay masks before old d can searched made =
+    → l ≡ level_to (length p) start actions d → Levelable p g u f x l
+level_can p g u f x start actions delay masks before old d can searched made =
     let room = room_less can.room searched.asked in
-    levelable p g u f reaching lines leading cells start actions delay d room can.legal can.moves can.indexed searched.asked
+    levelable p g u f x start actions delay d room can.legal can.moves can.indexed searched.asked
     (made ∙ level_whole room start)
 
 -- nothing beyond so many masks has changed
@@ -211,8 +213,8 @@ pub record Beyond (nodes : ℕ) (before masks : List ℕ) : Type 0 where
   pub size : length masks ≡ length before
   pub rest : drop nodes masks ≡ drop nodes before
 
-pub beyond_start : (nodes : ℕ) (before : List ℕ) → Beyond nodes before before
-beyond_start nodes before = record { size = refl; rest = refl }
+pub beyond_start : (n : ℕ) (before : List ℕ) → Beyond n before before
+beyond_start n before = record { size = refl; rest = refl }
 
 pub words_at_lem : (p : List ℕ) (g : List (List ℕ)) (u f : List ℕ) (start actions d : ℕ) → words (view_of p g u f start actions) d ≡ actions ^ (d / 2)
 unfolding words view_of

@@ -1,7 +1,7 @@
 -- Bits only go out, so that a target and a word whose callers were marked need not be marked again. Assumes nothing.
 use Prim.Native.Nat.{ℕ, ◌+◌, ◌-◌, ◌*◌, ◌/◌, ◌%◌, ◌^◌, ◌≤◌, ◌<◌}
 use mathlib.Core.Path.{◌≡◌, refl, sym, ◌∙◌, ap}
-use mathlib.Core.Bool.{true, false}
+use mathlib.Core.Bool.{Bool, true, false}
 use mathlib.Core.List.Memᴰ
 use mathlib.Core.List.{List, [], ◌∷◌, map, Memᴰ}
 use mathlib.Core.Logic.{⊎_elim}
@@ -17,7 +17,7 @@ use Rattle.theory.proofs.Fold.{bool, not_both, below?, same?}
 use Rattle.theory.proofs.Masks.{zero_bit}
 use Rattle.walk.specs.declared.level.Level.{Level}
 use Rattle.sheet.specs.Limits.{most_nodes}
-use Rattle.solver.specs.declared.spread.Spot.{Spot}
+use Rattle.solver.specs.code.Spread.{Spot}
 use Rattle.solver.specs.code.Work.{Work, fall_to, leave_to, mark_to, marks_to}
 use Rattle.solver.specs.code.Chains.{chain, head_of}
 use Rattle.solver.specs.code.Spread.{Spotted, caller_at, callers}
@@ -154,13 +154,13 @@ module _ (n c : ℕ) where
 
 -- notes stay right where bits go out
 module _ (heads cells : List ℕ) (words younger actions : ℕ) where
-  pub seen_kept : (n c : ℕ) (ks seen : List ℕ) (w : Work) {v : Work} → v ≡ marks_to n c w ks → Seen heads cells words younger actions seen w.masks
+  pub seen_kept : (n c : ℕ) (ks : List ℕ) (seen : List Bool) (w : Work) {v : Work} → v ≡ marks_to n c w ks → Seen heads cells words younger actions seen w.masks
       → Seen heads cells words younger actions seen v.masks
   seen_kept n c ks seen w e known =
       rw e (record { out = λ s z x m. (marks_ran n c ks w).out _ _ (known.out s z x m) })
 
-  pub seen_none : (seen masks : List ℕ) → Clear seen → Seen heads cells words younger actions seen masks
-  seen_none seen masks clear = record { out = λ s z x m. absurd (z (clear.none s)) }
+  pub seen_none : (seen : List Bool) (masks : List ℕ) → Clear seen → Seen heads cells words younger actions seen masks
+  seen_none seen masks clear = record { out = λ s z x m. absurd (not_both z (clear.none s)) }
 
 -- the place of a note fits a word
 module _ (p : Spot) (small : Spotted p) (t : ℕ) (h : t < 256) where
@@ -186,7 +186,7 @@ module _ (heads cells : List ℕ) (p : Spot) (small : Spotted p) (t : ℕ) where
   word_is : (t * p.words + p.word) % p.words ≡ p.word
   word_is = mul-add-mod_self_right t p.words p.word ∙ mod-eq_of_lt small.word_inside
 
-  abbrev Known : List ℕ → List ℕ → Type 0
+  abbrev Known : List Bool → List ℕ → Type 0
   Known seen masks = Seen heads cells p.words p.younger p.actions seen masks
 
   -- the place of a note is that of its target and word
@@ -221,16 +221,16 @@ module _ (heads cells : List ℕ) (p : Spot) (small : Spotted p) (t : ℕ) where
     outs_target masks o = rw (target_is, word_is) at o
 
     -- where it is noted, nothing is left to do
-    pub seen_quiet : (seen : List ℕ) {b : ℕ} → Known seen w.masks → b ≡ get_or seen (t * p.words + p.word) 0 → (b ≡ 0 → ⊥)
+    pub seen_quiet : (seen : List Bool) → Known seen w.masks → get_or seen (t * p.words + p.word) false ≡ true
         → w ≡ marks_to n p.action w (callers cells p (head_of heads t))
     unfolding callers
-    seen_quiet seen known e z =
+    seen_quiet seen known e =
         sym
         (marks_quiet n p.action (caller_at p) (chain cells (head_of heads t)) w
-        (outs_here w.masks (outs_target w.masks (known.out (t * p.words + p.word) (λ q. z (e ∙ q))))))
+        (outs_here w.masks (outs_target w.masks (known.out (t * p.words + p.word) e))))
 
-    pub seen_noted : (seen : List ℕ) {v : Work} → Known seen w.masks → v ≡ marks_to n p.action w (callers cells p (head_of heads t))
-        → v.tail < length v.queue → t * p.words + p.word < length seen → Known (set seen (t * p.words + p.word) 1) v.masks
+    pub seen_noted : (seen : List Bool) {v : Work} → Known seen w.masks → v ≡ marks_to n p.action w (callers cells p (head_of heads t))
+        → v.tail < length v.queue → t * p.words + p.word < length seen → Known (set seen (t * p.words + p.word) true) v.masks
     unfolding callers
     seen_noted seen {v} known e room inside =
         let kept = seen_kept heads cells p.words p.younger p.actions n p.action _ seen w e known in
@@ -241,12 +241,12 @@ module _ (heads cells : List ℕ) (p : Spot) (small : Spotted p) (t : ℕ) where
               λ s z.
               ⊎_elim
               (λ (q : s ≡ t * p.words + p.word). rw q (outs_place v.masks (outs_there v.masks gone)))
-              (λ (d : s ≡ t * p.words + p.word → ⊥). kept.out s (λ y. z (get_or-set_other seen (t * p.words + p.word) s 1 0 d ∙ y)))
+              (λ (d : s ≡ t * p.words + p.word → ⊥). kept.out s (sym (get_or-set_other seen (t * p.words + p.word) s true false d) ∙ z))
               (same? s (t * p.words + p.word));
         }
 
 -- a level's spots
-module _ (l : Level) (younger : ℕ) (fits : Fitted l younger) (n j : ℕ) (heads cells seen masks : List ℕ) {s : Spot} (e : s ≡ spot_at l younger n j) where
+module _ (l : Level) (younger : ℕ) (fits : Fitted l younger) (n j : ℕ) (heads cells : List ℕ) (seen : List Bool) (masks : List ℕ) {s : Spot} (e : s ≡ spot_at l younger n j) where
   pub seen_spot : Seen heads cells l.words younger l.actions seen masks → Seen heads cells s.words s.younger s.actions seen masks
   seen_spot known = rw e known
 
@@ -254,13 +254,13 @@ module _ (l : Level) (younger : ℕ) (fits : Fitted l younger) (n j : ℕ) (head
   seen_level known = rw e at known
 
 -- the first notes
-pub clear_part : (n : ℕ) (seen : List ℕ) → length seen ≡ most_nodes → ((i : ℕ) → i < most_nodes → get_or seen i 0 ≡ 0) → n ≤ most_nodes → Clear (take n seen)
+pub clear_part : (n : ℕ) (seen : List Bool) → length seen ≡ most_nodes → ((i : ℕ) → i < most_nodes → get_or seen i false ≡ false) → n ≤ most_nodes → Clear (take n seen)
 clear_part n seen size zeros h =
     record {
       none =
           λ s.
           ⊎_elim
-          (λ (l : s < n). get_or-take n seen s 0 l ∙ zeros s (omega arith))
-          (λ (l : n ≤ s). get_or-eq_default (take n seen) 0 (let q = length-take-le n seen (omega arith) in omega arith))
+          (λ (l : s < n). get_or-take n seen s false l ∙ zeros s (omega arith))
+          (λ (l : n ≤ s). get_or-eq_default (take n seen) false (let q = length-take-le n seen (omega arith) in omega arith))
           (below? s n);
     }

@@ -20,8 +20,7 @@ use Rattle.reader.proofs.Legality.{move_of}
 use Rattle.walk.specs.declared.level.Level.{Level}
 use Rattle.walk.specs.code.Levels.{Room, level_at}
 use Rattle.walk.proofs.LevelLaws.{level_sized}
-use Rattle.solver.specs.code.Chains.{Indexed}
-use Rattle.solver.specs.code.Sweep.{Fitted}
+use Rattle.solver.specs.code.Sweep.{Fitted, Index, Indexed}
 use Rattle.solver.specs.code.Working.{Lines, Levelable}
 use Rattle.solver.proofs.IndexLaws.{index_reverses}
 
@@ -87,11 +86,11 @@ module _ (positions start actions d : ℕ) (room : Room positions actions d) (ma
       }
 
 -- every level up to the asked delay can be solved
-pub levelable : (p : List ℕ) (g : List (List ℕ)) (u f reaching lines leading cells : List ℕ) (start actions delay d : ℕ)
+pub levelable : (p : List ℕ) (g : List (List ℕ)) (u f : List ℕ) (x : Index) (start actions delay d : ℕ)
     → Room (length p) actions d → Legal (view_of p g u f start actions) → Lines (view_of p g u f start actions) u
-    → Indexed u g delay reaching lines leading cells → d ≤ delay → {l : Level} → l ≡ level_at (length p) start actions d
-    → Levelable p g u f reaching lines leading cells l
-levelable p g u f reaching lines leading cells start actions delay d room legal all ix h e =
+    → Indexed u g delay x → d ≤ delay → {l : Level} → l ≡ level_at (length p) start actions d
+    → Levelable p g u f x l
+levelable p g u f x start actions delay d room legal all ix h e =
     rw e
     (record {
       sized = level_sized room start;
@@ -102,9 +101,7 @@ levelable p g u f reaching lines leading cells start actions delay d room legal 
             fits = fitted (length p) start actions d room many;
             legal = legal;
             reverses =
-                index_reverses p g u f start actions reaching lines leading cells room.few_positions legal all (ix.lines_linked (omega arith))
+                index_reverses p g u f start actions x ix.body room.few_positions legal all (ix.lines_linked (omega arith))
                 (ix.cells_linked (omega arith));
-            line_chains = ix.line_chains;
-            cell_chains = ix.cell_chains;
           };
     })

@@ -22,19 +22,17 @@ use Rattle.theory.proofs.Region.{length_masks}
 use Rattle.theory.proofs.Monotone.{answer_least}
 use Rattle.sheet.specs.Form.{part_at}
 use Rattle.sheet.specs.Size.{nodes_of}
-use Rattle.sheet.specs.Refusals.{number_of}
+use Rattle.std.proofs.Common.{Result, Ok, Err}
+use Rattle.sheet.specs.Refusals.{number_of, answer_of}
 use Rattle.sheet.specs.Bodies.{delay_of}
-use Rattle.reader.specs.Reading.{read_answer, refusal_number}
-use Rattle.reader.specs.Reading as reading
+use Rattle.reader.specs.Reading.{read_answer}
 use Rattle.sheet.specs.SheetGame.{game_of}
 use Rattle.sheet.specs.code.Arrays.{view_of, firsts_of, bodies_game}
 use Rattle.sheet.specs.declared.refusal.Refusal.{Refusal}
 use Rattle.sheet.specs.declared.refusal.Refusal.TheVariants.{Buffers}
 use Rattle.reader.specs.code.Laid.{grid_at}
 use Rattle.reader.specs.declared.reading.Layout.{Layout}
-use Rattle.reader.specs.declared.reading.Reading.{Reading}
-use Rattle.reader.specs.declared.reading.Reading.TheVariants.{Accepted, Refused}
-use Rattle.reader.proofs.Accepted.{read_is, carries, arena_nodes}
+use Rattle.reader.proofs.Accepted.{read_is, read_accepted, carries, arena_nodes}
 use Rattle.reader.proofs.Legality.{legal_game}
 use Rattle.walk.specs.declared.level.Level.{Level}
 use Rattle.walk.specs.code.Levels.{arena_of}
@@ -47,8 +45,7 @@ use Rattle.solver.specs.Solving.{solve_answer, solved_delay, masks_left, ranks_l
 use Rattle.solver.specs.code.Search.{verdict_by, Stopped, MasksStopped, Searchable, Fillable, Filled}
 use Rattle.theory.specs.Buffer.{over}
 use Rattle.walk.proofs.LevelLaws.{level_whole, nodes_less, room_less, level_sized, arena_is, nodes_is}
-use Rattle.solver.specs.code.Chains.{Indexed, Linked}
-use Rattle.solver.proofs.ChainLaws.{linked_none}
+use Rattle.solver.specs.code.Sweep.{Index, Indexed}
 use Rattle.solver.proofs.SheetLaws.{sheet_lines}
 use Rattle.solver.proofs.SearchLaws.{words_at_lem}
 
@@ -64,8 +61,8 @@ stop_within G legal d wins e = le_refl d
 stop_within G legal d (losing m) e = (answer_least G legal d m e).asked
 
 -- both buffers, by the arrays: r is where the search stopped, with the ranks in after
-module _ (p : List ℕ) (g : List (List ℕ)) (u f reaching lines leading cells : List ℕ) (start actions delay : ℕ) (before-masks before : List ℕ)
-    (can : Searchable p g u f reaching lines leading cells start actions delay before-masks before) where
+module _ (p : List ℕ) (g : List (List ℕ)) (u f : List ℕ) (x : Index) (start actions delay : ℕ) (before-masks before : List ℕ)
+    (can : Searchable p g u f x start actions delay before-masks before) where
   abbrev G : Game
   G = view_of p g u f start actions
 
@@ -168,9 +165,6 @@ module _ (p : List ℕ) (g : List (List ℕ)) (u f reaching lines leading cells 
                 ∙ ap (λ (x : List ℕ). x ++ drop (length x) before-masks) (masks_made_lem e);
           }
 
-pub ruleset filling =
-    (rules, room_stop, after_length, sized_stop, ranks_room, masks_room, masks_front, ranks_count, most_stop, masks_ready, masks_length, fills)
-
 -- the arrays of a sheet's bodies
 module _ (p : List ℕ) (g : List (List ℕ)) (u : List ℕ) (start actions delay : ℕ) (before-masks before : List ℕ)
     (fillable : Fillable p g u start actions delay before-masks before) (f : List ℕ) (ef : f ≡ firsts_of u) where
@@ -178,9 +172,9 @@ module _ (p : List ℕ) (g : List (List ℕ)) (u : List ℕ) (start actions dela
   unfolding bodies_game
   game_here = rw ef
 
-  pub bodies_can : (reaching lines leading cells : List ℕ) → Indexed u g delay reaching lines leading cells
-      → Searchable p g u f reaching lines leading cells start actions delay before-masks before
-  bodies_can reaching lines leading cells ix =
+  pub bodies_can : (x : Index) → Indexed u g delay x
+      → Searchable p g u f x start actions delay before-masks before
+  bodies_can x ix =
       record {
         room = fillable.room;
         masks_room = fillable.masks_room;
@@ -194,30 +188,16 @@ module _ (p : List ℕ) (g : List (List ℕ)) (u : List ℕ) (start actions dela
       → Filled (bodies_game p g u start actions) delay before-masks before m k r
   bodies_filled filled = rw game_here filled
 
--- arrays of zeros link nothing
-zeros : (n k : ℕ) → ◌≡◌ {A = ℕ} (get_or (replicate n 0) k 0) 0
-zeros zero k = refl
-zeros (suc n) zero = refl
-zeros (suc n) (suc k) = zeros n k
-
-pub long_enough : (l : List ℕ) (n : ℕ) → length l ≡ n → n ≤ length l
-long_enough l n e = rw e (le_refl n)
-
-pub none_linked : (key : ℕ → ℕ) (heads links : List ℕ) (n m : ℕ) → heads ≡ replicate n 0 → links ≡ replicate m 0 → n ≡ 257 → Linked key 0 heads links
-none_linked key heads links n m a b e =
-    linked_none key heads links (ap length a ∙ length-replicate {A = ℕ} n 0 ∙ e) (λ x. ap (λ (l : List ℕ). get_or l x 0) a ∙ zeros n x)
-    (λ i. ap (λ (l : List ℕ). get_or l i 0) b ∙ zeros m i)
-
 -- solving: a refused reading is handed on, and alters nothing
 
-module _ (s : List ℕ) (rd : Reading) (e : reading.reading_means rd ≡ read_answer s) where
-  module _ (x : Refusal) (a : rd ≡ Refused x) where
+module _ (s : List ℕ) (rd : Result Layout Refusal) (e : answer_of rd ≡ read_answer s) where
+  module _ (x : Refusal) (a : rd ≡ Err x) where
     refuses : (m k : ℕ) → solve_answer s m k ≡ refused (number_of x)
     unfolding solve_answer on_accepted
     refuses m k = rw (← e, a)
 
-    pub handed_on : (m k : ℕ) {n : ℕ} → n ≡ refusal_number rd → refused n ≡ solve_answer s m k
-    handed_on m k {n} f = ap refused (f ∙ ap refusal_number a) ∙ sym (refuses m k)
+    pub handed_on : (m k : ℕ) → refused (number_of x) ≡ solve_answer s m k
+    handed_on m k = sym (refuses m k)
 
     pub masks_untouched : (b : List ℕ) (m k : ℕ) → b ≡ masks_left s (solve_answer s m k) b
     unfolding masks_left
@@ -228,9 +208,9 @@ module _ (s : List ℕ) (rd : Reading) (e : reading.reading_means rd ≡ read_an
     ranks_untouched b m k = rw (refuses m k)
 
   -- an accepted reading: its P body and its level
-  module _ (l : Layout) (a : rd ≡ Accepted l) (p : List ℕ) (ep : p ≡ part_at s l.positions) where
+  module _ (l : Layout) (a : rd ≡ Ok l) (p : List ℕ) (ep : p ≡ part_at s l.positions) where
     answered : read_answer s ≡ accepted l
-    answered = sym e ∙ ap reading.reading_means a
+    answered = read_accepted s rd e l a
 
     module _ (v : Level) (made : v ≡ level_to (length p) l.start l.actions l.delay) where
       nodes_made : v.nodes ≡ nodes_of (length p) l.actions l.delay
@@ -257,11 +237,11 @@ module _ (s : List ℕ) (rd : Reading) (e : reading.reading_means rd ≡ read_an
       unfolding solve_answer on_accepted
       refuses_8 m k f = rw answered (check_failed _ 8 _ f)
 
-      pub masks_refused : (m k : ℕ) {n : ℕ} → m < v.nodes → n ≡ number_of Buffers → refused n ≡ solve_answer s m k
-      masks_refused m k h f = ap refused f ∙ sym (refuses_8 m k (few_masks m k h))
+      pub masks_refused : (m k : ℕ) → m < v.nodes → refused (number_of Buffers) ≡ solve_answer s m k
+      masks_refused m k h = sym (refuses_8 m k (few_masks m k h))
 
-      pub ranks_refused : (m k : ℕ) {n : ℕ} → k < v.nodes → n ≡ number_of Buffers → refused n ≡ solve_answer s m k
-      ranks_refused m k h f = ap refused f ∙ sym (refuses_8 m k (few_ranks m k h))
+      pub ranks_refused : (m k : ℕ) → k < v.nodes → refused (number_of Buffers) ≡ solve_answer s m k
+      ranks_refused m k h = sym (refuses_8 m k (few_ranks m k h))
 
       pub masks_kept_1 : (b : List ℕ) (m k : ℕ) → m < v.nodes → b ≡ masks_left s (solve_answer s m k) b
       unfolding masks_left
@@ -341,17 +321,3 @@ module _ (s : List ℕ) (rd : Reading) (e : reading.reading_means rd ≡ read_an
 
           pub solves_lost : r.wins ≡ false → Promised (losing r.delay)
           solves_lost w = (answer_lost w, (masks_filled, ranks_filled))
-
-pub ruleset solving = (
-  rules,
-  handed_on,
-  masks_untouched,
-  ranks_untouched,
-  masks_refused,
-  ranks_refused,
-  masks_kept_1,
-  ranks_kept_1,
-  masks_kept_2,
-  ranks_kept_2,
-  fillable_read,
-)

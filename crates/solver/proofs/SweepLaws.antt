@@ -2,19 +2,21 @@
 use Prim.Native.Nat.{ℕ, suc, ◌+◌, ◌-◌, ◌*◌, ◌/◌, ◌%◌, ◌≤◌, ◌<◌}
 use mathlib.Core.Path.{◌≡◌, refl, sym, ◌∙◌, ap}
 use mathlib.Core.Bool.{true, false}
+use mathlib.Core.List.{List}
 use native.Mathlib.Omega.{arith}
 use native.Mathlib.Nat.{mod-lt, div-le_self, mul-le-mul_left}
 use mir.Val.{Fits}
 use mir.Syntax.{w8}
 use lib.ListN.{get_or}
 use borrow.Author.Rules.{rules}
+use Rattle.sheet.specs.code.Arrays.{to_at, line_count}
 use Rattle.walk.specs.declared.level.Level.{Level}
-use Rattle.solver.specs.declared.spread.Spot.{Spot}
-use Rattle.solver.specs.code.Sizes.{largest16}
+use Rattle.solver.specs.code.Spread.{Spot}
+use Rattle.solver.specs.code.Sizes.{largest16, most_cells}
 use Rattle.solver.specs.code.Work.{Work, marks_to}
-use Rattle.solver.specs.code.Chains.{head_of}
+use Rattle.solver.specs.code.Chains.{head_of, Linked, cell_key}
 use Rattle.solver.specs.code.Spread.{Spotted, even_nodes, odd_nodes}
-use Rattle.solver.specs.code.Sweep.{Index, Fitted, spot_at, nodes_before, spread_to, sweep_to}
+use Rattle.solver.specs.code.Sweep.{Index, Indexed, Fitted, spot_at, nodes_before, spread_to, sweep_to}
 
 module _ (l : Level) (younger : ℕ) (fits : Fitted l younger) where
   pub some_word : 0 < l.words
@@ -60,21 +62,29 @@ module _ (l : Level) (younger : ℕ) (fits : Fitted l younger) where
 pub ruleset spotting = (rules, some_word, action_fits, spot_spotted)
 
 module _ (x : Index) (l : Level) (younger n : ℕ) (w : Work) (j : ℕ) where
-  pub spread_odd_is : {v : Work} {h : ℕ} {s : Spot} → s ≡ spot_at l younger n j → l.odd ≡ true → h ≡ head_of x.leading (j / l.words)
-      → v ≡ marks_to s.n s.action w (odd_nodes x.moves x.lines x.reaching x.cells s h) → v ≡ spread_to x l younger n w j
+  pub spread_odd_is : (s : Spot) {v : Work} → s ≡ spot_at l younger n j → l.odd ≡ true
+      → v ≡ marks_to s.n s.action w (odd_nodes x.moves x.lines x.reaching x.cells s (head_of x.leading (j / l.words))) → v ≡ spread_to x l younger n w j
   unfolding spread_to nodes_before
-  spread_odd_is {v} {h} {s} e o q r =
-      r ∙ ap (λ (y : ℕ). marks_to s.n s.action w (odd_nodes x.moves x.lines x.reaching x.cells s y)) q
+  spread_odd_is s e o r =
+      r
       ∙ ap (λ (s : Spot). marks_to s.n s.action w (odd_nodes x.moves x.lines x.reaching x.cells s (head_of x.leading (j / l.words)))) e
       ∙ rw o
 
-  pub spread_even_is : {v : Work} {h : ℕ} {s : Spot} → s ≡ spot_at l younger n j → l.odd ≡ false → h ≡ head_of x.reaching (j / l.words)
-      → v ≡ marks_to s.n s.action w (even_nodes x.moves x.lines x.leading x.cells s h) → v ≡ spread_to x l younger n w j
+  pub spread_even_is : (s : Spot) {v : Work} → s ≡ spot_at l younger n j → l.odd ≡ false
+      → v ≡ marks_to s.n s.action w (even_nodes x.moves x.lines x.leading x.cells s (head_of x.reaching (j / l.words))) → v ≡ spread_to x l younger n w j
   unfolding spread_to nodes_before
-  spread_even_is {v} {h} {s} e o q r =
-      r ∙ ap (λ (y : ℕ). marks_to s.n s.action w (even_nodes x.moves x.lines x.leading x.cells s y)) q
+  spread_even_is s e o r =
+      r
       ∙ ap (λ (s : Spot). marks_to s.n s.action w (even_nodes x.moves x.lines x.leading x.cells s (head_of x.reaching (j / l.words)))) e
       ∙ rw o
+
+-- the index of a U body and a grid
+module _ (u : List ℕ) (g : List (List ℕ)) (delay : ℕ) (x : Index) (body : x.moves ≡ u) where
+  pub index_none : delay < 2 → Indexed u g delay x
+  index_none h = record { body = body; lines_linked = λ d. absurd (omega arith); cells_linked = λ d. absurd (omega arith) }
+
+  pub index_both : Linked (to_at u) (line_count u) x.reaching x.lines → Linked (cell_key g) most_cells x.leading x.cells → Indexed u g delay x
+  index_both a b = record { body = body; lines_linked = λ d. a; cells_linked = λ d. b }
 
 -- the loop over the queue
 module _ (x : Index) (l : Level) (younger n : ℕ) where

@@ -18,7 +18,7 @@ use Rattle.walk.specs.code.Levels.{arena_of}
 use Rattle.sheet.specs.Limits.{most_nodes}
 use Rattle.solver.specs.code.Sizes.{largest16}
 use Rattle.solver.specs.code.Work.{Work, Lent}
-use Rattle.solver.specs.code.Sweep.{index, sweep_to}
+use Rattle.solver.specs.code.Sweep.{Index, sweep_to}
 use Rattle.solver.specs.code.First.{Placed}
 use Rattle.solver.specs.code.Block.{blocks_to}
 use Rattle.solver.specs.code.Working.{Workable, Worked}
@@ -38,7 +38,7 @@ module _ (a : ℕ) (h : a ≤ 8) where
       let l = bits_small in
       let q : 1 * 2 ^ a ≡ 2 ^ a = omega arith in
       let r : 2 ^ a < 18446744073709551616 = omega arith in
-      ap (λ (x : ℕ). x % 18446744073709551616) q ∙ mod-eq_of_lt r
+      ap (λ (y : ℕ). y % 18446744073709551616) q ∙ mod-eq_of_lt r
 
   pub full_sub : 1 ≤ (1 * 2 ^ a) % 18446744073709551616
   full_sub = rw shifted (pow_pos a)
@@ -56,8 +56,8 @@ pub record Rounding (E : Arena) (n lo hi : ℕ) (w : Work) : Type 0 where
   pub ready : Ready E n lo hi w
   pub few : n ≤ hi + 1
 
-module _ (p : List ℕ) (g : List (List ℕ)) (u f reaching lines leading cells : List ℕ) (l : Level) (younger : ℕ)
-    (can : Workable p g u f reaching lines leading cells l younger) where
+module _ (p : List ℕ) (g : List (List ℕ)) (u f : List ℕ) (x : Index) (l : Level) (younger : ℕ)
+    (can : Workable p g u f x l younger) where
   abbrev E : Arena
   E = arena_of p g u f l
 
@@ -131,11 +131,11 @@ module _ (p : List ℕ) (g : List (List ℕ)) (u f reaching lines leading cells 
     pub round_few : n < largest16
     round_few = let a = round_inside in let b = r.few in let c = can.sized.few_nodes in omega arith
 
-    module _ {v : Work} (e : v ≡ sweep_to (index u reaching lines leading cells) l younger n w lo (hi - lo)) where
+    module _ {v : Work} (e : v ≡ sweep_to x l younger n w lo (hi - lo)) where
       next_ready : Ready E (n + 1) hi v.tail v
       unfolding arena_of view_of
       next_ready =
-          ready_next (view_of p g u f l.start l.actions) can.legal l younger can.fits refl (index u reaching lines leading cells)
+          ready_next (view_of p g u f l.start l.actions) can.legal l younger can.fits refl x
           can.reverses n lo hi w r.ready e
 
       pub round_more : (v.tail ≡ hi → ⊥) → hi < v.tail
@@ -166,7 +166,7 @@ module _ (p : List ℕ) (g : List (List ℕ)) (u f reaching lines leading cells 
       done_here : v.tail ≡ hi → Finished E n v
       unfolding arena_of view_of
       done_here z =
-          ready_done (view_of p g u f l.start l.actions) can.legal l younger can.fits refl (index u reaching lines leading cells)
+          ready_done (view_of p g u f l.start l.actions) can.legal l younger can.fits refl x
           can.reverses n lo hi w r.ready e (omega arith)
 
       pub round_over : v.tail ≡ hi → Worked E v.ranks v.masks n

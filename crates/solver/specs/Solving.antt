@@ -11,7 +11,7 @@ use Rattle.reader.specs.Reading.{read_answer}
 use Rattle.sheet.specs.SheetGame.{game_of}
 use Rattle.reader.specs.declared.reading.Layout.{Layout}
 use Rattle.solver.specs.declared.solve.Solution.{Solution}
-use Rattle.solver.specs.declared.solve.Solution.TheVariants.{Winning, Losing, Refused}
+use Rattle.solver.specs.declared.solve.Solution.TheVariants.{Winning, Losing}
 
 -- "winning", or "losing m", with what the accepted reading carried
 pub record Solved : Type 0 where
@@ -52,8 +52,7 @@ masks_solved s masks ranks = masks_left s (solving s masks ranks) masks
 abbrev pub ranks_solved : List ℕ → List ℕ → List ℕ → List ℕ
 ranks_solved s masks ranks = ranks_left s (solving s masks ranks) ranks
 
--- document 01's number and values for every case of the code's answer
-abbrev pub solution_means : Solution → Answer Solved
-solution_means (Winning l) = accepted (record { verdict = wins; layout = l })
-solution_means (Losing m l) = accepted (record { verdict = losing m; layout = l })
-solution_means (Refused n) = refused n
+-- document 01's values for every case of the code's solution
+abbrev pub solved_by : Solution → Solved
+solved_by (Winning l) = record { verdict = wins; layout = l }
+solved_by (Losing m l) = record { verdict = losing m; layout = l }

@@ -9,3 +9,4 @@ pub mod Sweep
 pub mod First
 pub mod Block
 pub mod Working
+pub mod Views

@@ -1,7 +1,8 @@
 // Solving: document 01's table and answer at every delay, from a game sheet's bytes (refusals 1 to 8).
 #![tactic(auto)]
 
-pub mod index; // the chains of lines and cells
+pub mod chain; // the places of each key
+pub mod index; // the chains of a game's lines and cells
 pub mod mark; // one action of one node
 pub mod spread; // the nodes before a fallen one
 pub mod sweep; // the nodes of one rank

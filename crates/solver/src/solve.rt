@@ -1,135 +1,77 @@
 // Solving a game sheet: refusals 1 to 8, the answer, and the masks and ranks in the lent buffers.
 ghost use Rattle.std.specs.Prelude.{◌≡◌};
-ghost use Rattle.solver.specs.Solving.{solution_means, solving, masks_solved, ranks_solved};
-ghost use Rattle.sheet.specs.code.Arrays.{view_of, bodies_game};
-ghost use Rattle.solver.specs.code.Search.{Searchable, Fillable, Filled};
+ghost use Rattle.sheet.specs.Refusals.{answer_by};
+ghost use Rattle.solver.specs.Solving.{solved_by, solving, masks_solved, ranks_solved};
+ghost use Rattle.solver.specs.code.Search.{Filled};
+ghost use Rattle.solver.specs.code.Views.{game_in, CanFill};
 
 use crate::delays::{Stop, search};
-use crate::index::index;
+use crate::index::index_of;
 use crate::levels::mask_level;
-use crate::spread::CELLS;
 use reader::arrays::grid_at;
-use reader::reading::{Layout, Reading, read};
+use reader::reading::{Layout, read};
 use sheet::form::part;
-use sheet::limits::{INDEX, MOST_MOVES, ROW, ROWS};
 use sheet::moves::first_lines;
 use sheet::refusal::Refusal;
+use walk::arena::{Arena, Fallen};
 use walk::level::level_at;
 
 // Losing: the least delay at which no strategy wins.
-#[derive(Clone, Copy)]
+#[derive(Clone, Copy, Debug, PartialEq, Eq)]
 pub enum Solution {
     Winning(Layout),
     Losing(u8, Layout),
-    Refused(u8),
 }
 
-// Both buffers filled, from the arrays of an accepted sheet.
-fn fill_by(
-    p: &[u8],
-    grid: &[[u16; ROW]; ROWS],
-    u: &[u8],
-    firsts: &[u16; INDEX],
-    reaching: &[u16; INDEX],
-    lines: &[u16; MOST_MOVES],
-    leading: &[u16; INDEX],
-    cells: &[u16; CELLS],
-    start: u8,
-    actions: u8,
-    delay: u8,
-    masks: &mut [u8],
-    ranks: &mut [u16],
-) -> Stop
-    requires { Searchable p.now grid.now u.now firsts.now reaching.now lines.now leading.now cells.now start actions delay
-        masks.old ranks.old }
-    ensures { Filled (view_of p.now grid.now u.now firsts.now start actions) delay
-        masks.old ranks.old masks.new ranks.new result }
+// Both buffers filled, from the arrays of an accepted sheet. The chains are made once, for all delays.
+fn fill(arena: &Arena, l: Layout, masks: &mut [u8], ranks: &mut [u16]) -> Stop
+    requires { CanFill arena.now l masks.old ranks.old }
+    ensures { Filled (game_in arena.now l) l.delay masks.old ranks.old masks.new ranks.new result }
 {
-    let stop = search(
-        p, grid, u, firsts, reaching, lines, leading, cells, start, actions, delay, ranks, masks,
-    );
-    let level = level_at(p.len(), start, actions, stop.delay);
+    let index = index_of(arena.moves, arena.grid, l.delay);
+    let stop = search(arena, &index, l, ranks, masks);
+    let level = level_at(arena.positions.len(), l.start, l.actions, stop.delay);
     let nodes = level.nodes;
-    mask_level(
-        p,
-        grid,
-        u,
-        firsts,
-        level,
-        &ranks[..nodes],
-        stop.rounds,
-        &mut masks[..nodes],
-    );
+    let here = Arena { level, ..*arena };
+    let fallen = Fallen {
+        marks: &ranks[..nodes],
+        last: stop.rounds,
+    };
+    mask_level(&here, &fallen, &mut masks[..nodes]);
     stop
 }
 
-// The same from the grid and the bodies. The index of moves and the chains are made once, for all delays.
-fn fill(
-    p: &[u8],
-    grid: &[[u16; ROW]; ROWS],
-    u: &[u8],
-    start: u8,
-    actions: u8,
-    delay: u8,
-    masks: &mut [u8],
-    ranks: &mut [u16],
-) -> Stop
-    requires { Fillable p.now grid.now u.now start actions delay masks.old ranks.old }
-    ensures { Filled (bodies_game p.now grid.now u.now start actions) delay
-        masks.old ranks.old masks.new ranks.new result }
-{
-    let firsts = first_lines(u);
-    let mut reaching = [0u16; INDEX];
-    let mut lines = [0u16; MOST_MOVES];
-    let mut leading = [0u16; INDEX];
-    let mut cells = [0u16; CELLS];
-    index(
-        u,
-        grid,
-        delay,
-        &mut reaching,
-        &mut lines,
-        &mut leading,
-        &mut cells,
-    );
-    fill_by(
-        p, grid, u, &firsts, &reaching, &lines, &leading, &cells, start, actions, delay, masks,
-        ranks,
-    )
-}
-
-pub fn solve(sheet: &[u8], masks: &mut [u8], ranks: &mut [u16]) -> Solution
-    ensures answer { solution_means result ≡ solving sheet.now masks.old ranks.old }
+// Document 01 has the reading taken apart with let else, and its refusal handed straight on.
+pub fn solve(sheet: &[u8], masks: &mut [u8], ranks: &mut [u16]) -> Result<Solution, Refusal>
+    ensures answer { answer_by solved_by result ≡ solving sheet.now masks.old ranks.old }
     ensures masks { masks.new ≡ masks_solved sheet.now masks.old ranks.old }
     ensures ranks { ranks.new ≡ ranks_solved sheet.now masks.old ranks.old }
 {
     let reading = read(sheet);
-    let Reading::Accepted(l) = reading else {
-        return Solution::Refused(reading.refusal_number());
+    let Ok(l) = reading else {
+        return Err(reading.unwrap_err());
     };
-    let positions = l.positions;
-    let p = part(sheet, positions);
-    let level = level_at(p.len(), l.start, l.actions, l.delay);
+    let positions = part(sheet, l.positions);
+    let level = level_at(positions.len(), l.start, l.actions, l.delay);
     if masks.len() < level.nodes {
-        return Solution::Refused(Refusal::Buffers.number());
+        return Err(Refusal::Buffers);
     }
     if ranks.len() < level.nodes {
-        return Solution::Refused(Refusal::Buffers.number());
+        return Err(Refusal::Buffers);
     }
-    let moves = l.moves;
     let grid = grid_at(sheet, l);
-    let stop = fill(
-        p,
-        &grid,
-        part(sheet, moves),
-        l.start,
-        l.actions,
-        l.delay,
-        masks,
-        ranks,
-    );
+    let moves = part(sheet, l.moves);
+    let firsts = first_lines(moves);
+    let arena = Arena {
+        positions,
+        grid: &grid,
+        moves,
+        firsts: &firsts,
+        level,
+    };
+    let stop = fill(&arena, l, masks, ranks);
     if stop.wins {
-        return Solution::Winning(l);
+        return Ok(Solution::Winning(l));
     }
-    Solution::Losing(stop.delay, l)
+    Ok(Solution::Losing(stop.delay, l))
 }

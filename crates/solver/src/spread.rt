@@ -3,225 +3,129 @@
 ghost use Rattle.std.specs.Prelude.{◌≡◌, ◌≤◌, ◌<◌};
 ghost use Rattle.sheet.specs.Limits.{most_moves, most_positions};
 ghost use Rattle.solver.specs.code.Sizes.{most_cells, word_bound};
-ghost use Rattle.solver.specs.code.Work.{work, Lent, marks_to};
-ghost use Rattle.solver.specs.code.Chains.{head_of, Chains, Down};
-ghost use Rattle.solver.specs.code.Spread.{Spotted, caller_at, word_at, callers, source_at, sources, even_nodes, odd_nodes};
+ghost use Rattle.solver.specs.code.Chains.{head_of};
+ghost use Rattle.solver.specs.code.Work.{marks_to};
+ghost use Rattle.solver.specs.code.Spread.{spot, Spotted, caller_at, word_at, callers, source_at, sources, even_nodes, odd_nodes};
 ghost use Rattle.solver.specs.code.Seen.{Seen};
 
-use crate::mark::mark;
-use sheet::form::{byte, wide, wide16};
-use sheet::limits::{INDEX, MOST_MOVES, ROW, ROWS};
-
-// The cells of the grid.
-pub const CELLS: usize = ROWS * ROW;
+use crate::index::Index;
+use crate::mark::Worklist;
+use sheet::form::byte;
+use sheet::limits::ROW;
 
 // What falls with a node in round n: an action, chosen where a word's younger actions are rest; the node's word is both. The word
 // of a node before is its oldest action times younger, plus rest.
 #[derive(Clone, Copy)]
-pub struct Spot {
-    pub n: u16,
-    pub words: usize,
-    pub younger: usize,
-    pub actions: usize,
-    pub word: usize,
-    pub rest: usize,
-    pub action: u8,
+pub(crate) struct Spot {
+    pub(crate) n: u16,
+    pub(crate) words: usize,
+    pub(crate) younger: usize,
+    pub(crate) actions: usize,
+    pub(crate) word: usize,
+    pub(crate) rest: usize,
+    pub(crate) action: u8,
+    ghost fits: { Spotted (spot n words younger actions word rest action) },
 }
 
-// The node of a cell's position, whose oldest action is the cell's.
-fn caller_at(spot: Spot, x: usize) -> usize
-    requires { (Spotted spot) × (x < most_cells) }
-    ensures { result ≡ caller_at spot x }
-{
-    x / ROW * spot.words + x % ROW * spot.younger + spot.rest
-}
+impl Spot {
+    ghost use Rattle.solver.specs.code.Views.{spotted};
 
-// The node of a line's position before the move.
-fn source_at(u: &[u8], spot: Spot, word: usize, i: usize) -> usize
-    requires { (Spotted spot) × (word < word_bound) × (i < most_moves) }
-    ensures { result ≡ source_at u.now spot word i }
-{
-    wide(byte(u, 2 * i)) * spot.words + word
-}
-
-// The word with a cell's action as its oldest.
-fn word_at(spot: Spot, x: usize) -> usize
-    requires { Spotted spot }
-    ensures { (result ≡ word_at spot x) × (result < word_bound) }
-{
-    x % ROW * spot.younger + spot.rest
-}
-
-// The first link of a key's chain; there is none for other keys.
-pub(crate) fn head(heads: &[u16; INDEX], x: usize) -> usize
-    ensures { result ≡ head_of heads.now x }
-{
-    if INDEX <= x {
-        return 0;
+    // The node of a cell's position, whose oldest action is the cell's.
+    #[tactic(auto, unfolding(crate::specs::code::Spread::caller_at))]
+    fn caller_at(self, x: usize) -> usize
+        requires { x < most_cells }
+        ensures { result ≡ caller_at (spotted self) x }
+    {
+        x / ROW * self.words + x % ROW * self.younger + self.rest
     }
-    wide16(heads[x])
+
+    // The node of a line's position before the move.
+    #[tactic(auto, unfolding(crate::specs::code::Spread::source_at))]
+    fn source_at(self, u: &[u8], word: usize, i: usize) -> usize
+        requires { (word < word_bound) × (i < most_moves) }
+        ensures { result ≡ source_at u.now (spotted self) word i }
+    {
+        usize::from(byte(u, 2 * i)) * self.words + word
+    }
+
+    // The word with a cell's action as its oldest.
+    #[tactic(auto, unfolding(crate::specs::code::Spread::word_at))]
+    fn word_at(self, x: usize) -> usize
+        ensures { (result ≡ word_at (spotted self) x) × (result < word_bound) }
+    {
+        x % ROW * self.younger + self.rest
+    }
 }
 
-// At the nodes whose oldest action, played at their position, leads to the target of this chain of cells.
-fn mark_callers(
-    cells: &[u16; CELLS],
-    ranks: &mut [u16],
-    masks: &mut [u8],
-    queue: &mut [u16],
-    spot: Spot,
-    first: usize,
-    tail: usize,
-) -> usize
-    requires { (Lent ranks.old masks.old queue.old) × (Spotted spot) × (Down cells.now) × (first ≤ most_cells) }
-    ensures { work ranks.new masks.new queue.new result
-        ≡ marks_to spot.n spot.action (work ranks.old masks.old queue.old tail)
-        (callers cells.now spot first) }
-{
-    let mut e = first;
-    let mut end = tail;
-    while e != 0 {
-        let x = e - 1;
-        let k = caller_at(spot, x);
-        end = mark(ranks, masks, queue, spot.n, spot.action, k, end);
-        e = wide16(cells[x]);
-    }
-    end
-}
+impl Index<'_> {
+    ghost use Rattle.solver.specs.code.Views.{listed, spotted, Turned};
 
-// At the nodes with this word whose position's moves are on this chain of lines.
-fn mark_sources(
-    u: &[u8],
-    lines: &[u16; MOST_MOVES],
-    ranks: &mut [u16],
-    masks: &mut [u8],
-    queue: &mut [u16],
-    spot: Spot,
-    word: usize,
-    first: usize,
-    tail: usize,
-) -> usize
-    requires { (Lent ranks.old masks.old queue.old) × (Spotted spot) × (word < word_bound) × (Down lines.now)
-        × (first ≤ most_moves) }
-    ensures { work ranks.new masks.new queue.new result
-        ≡ marks_to spot.n spot.action (work ranks.old masks.old queue.old tail)
-        (sources u.now lines.now spot word first) }
-{
-    let mut e = first;
-    let mut end = tail;
-    while e != 0 {
-        let i = e - 1;
-        let k = source_at(u, spot, word, i);
-        end = mark(ranks, masks, queue, spot.n, spot.action, k, end);
-        e = wide16(lines[i]);
+    // At the nodes whose oldest action, played at their position, leads to target t.
+    fn mark_callers(&self, spot: Spot, t: usize, work: &mut Worklist)
+        ensures { Turned work.old (marks_to spot.n spot.action (listed work.old)
+            (callers self.now.leading.links (spotted spot) (head_of self.now.leading.heads t))) work.new }
+    {
+        for x in self.leading.places(t) {
+            work.mark(spot.n, spot.action, spot.caller_at(x));
+        }
     }
-    end
-}
 
-// The same for target t, once for each word: nothing is left to do where it was done before. It is noted as done only where the
-// queue has room: every bit is out then.
-fn mark_target(
-    heads: &[u16; INDEX],
-    cells: &[u16; CELLS],
-    seen: &mut [u8],
-    ranks: &mut [u16],
-    masks: &mut [u8],
-    queue: &mut [u16],
-    spot: Spot,
-    t: usize,
-    tail: usize,
-) -> usize
-    requires { (Lent ranks.old masks.old queue.old) × (Spotted spot) × (Chains most_cells heads.now cells.now) × (t < most_positions)
-        × (Seen heads.now cells.now spot.words spot.younger spot.actions seen.old masks.old) }
-    ensures { (work ranks.new masks.new queue.new result
-        ≡ marks_to spot.n spot.action (work ranks.old masks.old queue.old tail)
-        (callers cells.now spot (head_of heads.now t)))
-        × (Seen heads.now cells.now spot.words spot.younger spot.actions seen.new
-        masks.new) }
-{
-    let s = t * spot.words + spot.word;
-    if byte(seen, s) != 0 {
-        return tail;
+    // At the nodes with this word, from whose position a move reaches q.
+    fn mark_sources(&self, spot: Spot, word: usize, q: usize, work: &mut Worklist)
+        requires { word < word_bound }
+        ensures { Turned work.old (marks_to spot.n spot.action (listed work.old)
+            (sources self.now.moves.now self.now.reaching.links (spotted spot) word (head_of self.now.reaching.heads q))) work.new }
+    {
+        for i in self.reaching.places(q) {
+            work.mark(spot.n, spot.action, spot.source_at(self.moves, word, i));
+        }
     }
-    let end = mark_callers(cells, ranks, masks, queue, spot, head(heads, t), tail);
-    if queue.len() <= end {
-        return end;
-    }
-    if seen.len() <= s {
-        return end;
-    }
-    seen[s] = 1;
-    end
-}
 
-// Even delays: a caller's action leads to a position from where a move leads to the fallen node's.
-pub(crate) fn spread_even(
-    u: &[u8],
-    lines: &[u16; MOST_MOVES],
-    heads: &[u16; INDEX],
-    cells: &[u16; CELLS],
-    seen: &mut [u8],
-    ranks: &mut [u16],
-    masks: &mut [u8],
-    queue: &mut [u16],
-    spot: Spot,
-    first: usize,
-    tail: usize,
-) -> usize
-    requires { (Lent ranks.old masks.old queue.old) × (Spotted spot) × (Chains most_cells heads.now cells.now)
-        × (Down lines.now) × (first ≤ most_moves)
-        × (Seen heads.now cells.now spot.words spot.younger spot.actions seen.old masks.old) }
-    ensures { (work ranks.new masks.new queue.new result
-        ≡ marks_to spot.n spot.action (work ranks.old masks.old queue.old tail)
-        (even_nodes u.now lines.now heads.now cells.now spot first))
-        × (Seen heads.now cells.now spot.words spot.younger spot.actions seen.new
-        masks.new) }
-{
-    let mut e = first;
-    let mut end = tail;
-    while e != 0 {
-        let i = e - 1;
-        let t = wide(byte(u, 2 * i));
-        end = mark_target(heads, cells, seen, ranks, masks, queue, spot, t, end);
-        e = wide16(lines[i]);
+    // The callers of target t, once for each word: nothing is left to do where it was done before. It is noted as done only where the
+    // queue has room: every bit is out then.
+    fn mark_target(&self, spot: Spot, t: usize, seen: &mut [bool], work: &mut Worklist)
+        requires { (t < most_positions)
+            × (Seen self.now.leading.heads self.now.leading.links spot.words spot.younger spot.actions seen.old work.old.masks.now) }
+        ensures calls { Turned work.old (marks_to spot.n spot.action (listed work.old)
+            (callers self.now.leading.links (spotted spot) (head_of self.now.leading.heads t))) work.new }
+        ensures notes { Seen self.now.leading.heads self.now.leading.links spot.words spot.younger spot.actions seen.new
+            work.new.masks.now }
+    {
+        let s = t * spot.words + spot.word;
+        if s < seen.len() && seen[s] {
+            return;
+        }
+        self.mark_callers(spot, t, work);
+        if work.queue.len() <= work.tail {
+            return;
+        }
+        if s < seen.len() {
+            seen[s] = true;
+        }
     }
-    end
-}
 
-// Odd delays: a move leads to a position from where the oldest action leads to the fallen node's.
-pub(crate) fn spread_odd(
-    u: &[u8],
-    lines: &[u16; MOST_MOVES],
-    heads: &[u16; INDEX],
-    cells: &[u16; CELLS],
-    ranks: &mut [u16],
-    masks: &mut [u8],
-    queue: &mut [u16],
-    spot: Spot,
-    first: usize,
-    tail: usize,
-) -> usize
-    requires { (Lent ranks.old masks.old queue.old) × (Spotted spot) × (Chains most_moves heads.now lines.now)
-        × (Down cells.now) × (first ≤ most_cells) }
-    ensures { work ranks.new masks.new queue.new result
-        ≡ marks_to spot.n spot.action (work ranks.old masks.old queue.old tail)
-        (odd_nodes u.now lines.now heads.now cells.now spot first) }
-{
-    let mut e = first;
-    let mut end = tail;
-    while e != 0 {
-        let x = e - 1;
-        end = mark_sources(
-            u,
-            lines,
-            ranks,
-            masks,
-            queue,
-            spot,
-            word_at(spot, x),
-            head(heads, x / ROW),
-            end,
-        );
-        e = wide16(cells[x]);
+    // Even delays: a caller's action leads to a position from where a move leads to the fallen node's, q.
+    pub(crate) fn spread_even(&self, spot: Spot, q: usize, seen: &mut [bool], work: &mut Worklist)
+        requires { Seen self.now.leading.heads self.now.leading.links spot.words spot.younger spot.actions seen.old work.old.masks.now }
+        ensures calls { Turned work.old (marks_to spot.n spot.action (listed work.old)
+            (even_nodes self.now.moves.now self.now.reaching.links self.now.leading.heads self.now.leading.links (spotted spot)
+            (head_of self.now.reaching.heads q))) work.new }
+        ensures notes { Seen self.now.leading.heads self.now.leading.links spot.words spot.younger spot.actions seen.new
+            work.new.masks.now }
+    {
+        for i in self.reaching.places(q) {
+            self.mark_target(spot, usize::from(byte(self.moves, 2 * i)), seen, work);
+        }
     }
-    end
+
+    // Odd delays: a move leads to a position from where the oldest action leads to the fallen node's, q.
+    pub(crate) fn spread_odd(&self, spot: Spot, q: usize, work: &mut Worklist)
+        ensures { Turned work.old (marks_to spot.n spot.action (listed work.old)
+            (odd_nodes self.now.moves.now self.now.reaching.links self.now.reaching.heads self.now.leading.links (spotted spot)
+            (head_of self.now.leading.heads q))) work.new }
+    {
+        for x in self.leading.places(q) {
+            self.mark_sources(spot, spot.word_at(x), x / ROW, work);
+        }
+    }
 }

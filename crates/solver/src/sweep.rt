@@ -1,130 +1,73 @@
 // All nodes of one rank are spread, in the order of the queue.
 ghost use Rattle.std.specs.Prelude.{◌≡◌, ◌-◌, ◌≤◌, ◌<◌, length};
-ghost use Rattle.sheet.specs.Limits.{most_moves};
-ghost use Rattle.solver.specs.code.Sizes.{most_cells, largest16};
-ghost use Rattle.solver.specs.code.Work.{work, Lent};
-ghost use Rattle.solver.specs.code.Chains.{Chains};
-ghost use Rattle.solver.specs.code.Spread.{Spotted};
+ghost use Rattle.solver.specs.code.Sizes.{largest16};
 ghost use Rattle.solver.specs.code.Seen.{Seen};
-ghost use Rattle.solver.specs.code.Sweep.{index, Fitted, spot_at, spread_to, sweep_to};
+ghost use Rattle.solver.specs.code.Sweep.{Fitted, spot_at, spread_to, sweep_to};
 
-use crate::spread::{CELLS, Spot, head, spread_even, spread_odd};
-use sheet::form::wide16;
-use sheet::limits::{INDEX, MOST_MOVES};
+use crate::index::Index;
+use crate::mark::Worklist;
+use crate::spread::Spot;
 use walk::level::Level;
 
-// The action and the younger actions of node j's word.
-fn spot_at(level: Level, younger: usize, n: u16, j: usize) -> Spot
-    requires { (Fitted level younger) × (n < largest16) }
-    ensures { (result ≡ spot_at level younger n j) × (Spotted result) }
-{
-    let v = j % level.words;
-    Spot {
-        n,
-        words: level.words,
-        younger,
-        actions: level.actions,
-        word: v,
-        rest: v / level.actions,
-        action: (v % level.actions) as u8,
-    }
+// The nodes of rank n are swept, at a level with so many younger words.
+#[derive(Clone, Copy)]
+pub(crate) struct Round {
+    pub(crate) level: Level,
+    pub(crate) younger: usize,
+    pub(crate) n: u16,
+    ghost fits: { Fitted level younger },
+    ghost few: { n < largest16 },
 }
 
-// Node j, which fell in round n.
-fn spread(
-    u: &[u8],
-    reaching: &[u16; INDEX],
-    lines: &[u16; MOST_MOVES],
-    leading: &[u16; INDEX],
-    cells: &[u16; CELLS],
-    level: Level,
-    younger: usize,
-    seen: &mut [u8],
-    ranks: &mut [u16],
-    masks: &mut [u8],
-    queue: &mut [u16],
-    n: u16,
-    j: usize,
-    tail: usize,
-) -> usize
-    requires { (Lent ranks.old masks.old queue.old) × (Fitted level younger) × (n < largest16)
-        × (Chains most_moves reaching.now lines.now) × (Chains most_cells leading.now cells.now)
-        × (Seen leading.now cells.now level.words younger level.actions seen.old masks.old) }
-    ensures { (work ranks.new masks.new queue.new result
-        ≡ spread_to
-        (index u.now reaching.now lines.now leading.now cells.now)
-        level younger n (work ranks.old masks.old queue.old tail) j)
-        × (Seen leading.now cells.now level.words younger level.actions seen.new
-        masks.new) }
-{
-    let spot = spot_at(level, younger, n, j);
-    let q = j / level.words;
-    if level.odd {
-        return spread_odd(
-            u,
-            lines,
-            reaching,
-            cells,
-            ranks,
-            masks,
-            queue,
-            spot,
-            head(leading, q),
-            tail,
-        );
-    }
-    spread_even(
-        u,
-        lines,
-        leading,
-        cells,
-        seen,
-        ranks,
-        masks,
-        queue,
-        spot,
-        head(reaching, q),
-        tail,
-    )
-}
+impl Round {
+    ghost use Rattle.solver.specs.code.Views.{indexed, listed, spotted, Turned};
 
-// The nodes of rank n, which are the queue's entries from lo up to hi.
-pub(crate) fn sweep(
-    u: &[u8],
-    reaching: &[u16; INDEX],
-    lines: &[u16; MOST_MOVES],
-    leading: &[u16; INDEX],
-    cells: &[u16; CELLS],
-    level: Level,
-    younger: usize,
-    seen: &mut [u8],
-    ranks: &mut [u16],
-    masks: &mut [u8],
-    queue: &mut [u16],
-    n: u16,
-    lo: usize,
-    hi: usize,
-    tail: usize,
-) -> usize
-    requires { (Lent ranks.old masks.old queue.old) × (Fitted level younger) × (n < largest16)
-        × (Chains most_moves reaching.now lines.now) × (Chains most_cells leading.now cells.now) × (hi ≤ length queue.old)
-        × (Seen leading.now cells.now level.words younger level.actions seen.old masks.old) }
-    ensures { (work ranks.new masks.new queue.new result
-        ≡ sweep_to
-        (index u.now reaching.now lines.now leading.now cells.now)
-        level younger n (work ranks.old masks.old queue.old tail) lo (hi - lo))
-        × (Seen leading.now cells.now level.words younger level.actions seen.new
-        masks.new) }
-{
-    let mut at = lo;
-    let mut end = tail;
-    while at < hi {
-        let j = wide16(queue[at]);
-        end = spread(
-            u, reaching, lines, leading, cells, level, younger, seen, ranks, masks, queue, n, j,
-            end,
-        );
-        at += 1;
+    // The action and the younger actions of node j's word.
+    fn spot(self, j: usize) -> Spot
+        ensures { spotted result ≡ spot_at self.level self.younger self.n j }
+    {
+        let level = self.level;
+        let v = j % level.words;
+        Spot {
+            n: self.n,
+            words: level.words,
+            younger: self.younger,
+            actions: level.actions,
+            word: v,
+            rest: v / level.actions,
+            action: (v % level.actions) as u8,
+        }
     }
-    end
+
+    // Node j, which fell in round n.
+    fn spread(self, index: &Index, j: usize, seen: &mut [bool], work: &mut Worklist)
+        requires { Seen index.now.leading.heads index.now.leading.links self.level.words self.younger self.level.actions seen.old
+            work.old.masks.now }
+        ensures calls { Turned work.old (spread_to (indexed index.now) self.level self.younger self.n (listed work.old) j) work.new }
+        ensures notes { Seen index.now.leading.heads index.now.leading.links self.level.words self.younger self.level.actions seen.new
+            work.new.masks.now }
+    {
+        let spot = self.spot(j);
+        let q = j / self.level.words;
+        if self.level.odd {
+            index.spread_odd(spot, q, work);
+        } else {
+            index.spread_even(spot, q, seen, work);
+        }
+    }
+
+    // The nodes of rank n, which are the queue's entries from lo up to hi.
+    pub(crate) fn sweep(self, index: &Index, lo: usize, hi: usize, seen: &mut [bool], work: &mut Worklist)
+        requires { (hi ≤ length work.old.queue.now) × (Seen index.now.leading.heads index.now.leading.links self.level.words self.younger
+            self.level.actions seen.old work.old.masks.now) }
+        ensures calls { Turned work.old (sweep_to (indexed index.now) self.level self.younger self.n (listed work.old) lo (hi - lo))
+            work.new }
+        ensures notes { Seen index.now.leading.heads index.now.leading.links self.level.words self.younger self.level.actions seen.new
+            work.new.masks.now }
+    {
+        for at in lo..hi {
+            let j = usize::from(work.queue[at]);
+            self.spread(index, j, seen, work);
+        }
+    }
 }

@@ -43,10 +43,3 @@ pub record Linked (key : ℕ → ℕ) (n : ℕ) (heads links : List ℕ) : Type 
 -- the key of a cell of the grid, by its position and action: its target's mark
 unfoldable pub cell_key : List (List ℕ) → ℕ → ℕ
 cell_key g x = mark_of (target_at g (x / most_actions) (x % most_actions))
-
--- the chains of the lines and the cells, where the delay asks for them; they end in any case
-pub record Indexed (u : List ℕ) (g : List (List ℕ)) (delay : ℕ) (reaching lines leading cells : List ℕ) : Type 0 where
-  pub line_chains : Chains most_moves reaching lines
-  pub cell_chains : Chains most_cells leading cells
-  pub lines_linked : 2 ≤ delay → Linked (to_at u) (line_count u) reaching lines
-  pub cells_linked : 2 ≤ delay → Linked (cell_key g) most_cells leading cells

@@ -9,7 +9,7 @@ use Rattle.sheet.specs.code.Arrays.{view_of, bodies_game}
 use Rattle.walk.specs.declared.level.Level.{Level}
 use Rattle.walk.specs.code.Levels.{Room}
 use Rattle.rounds.specs.code.Falling.{AtMost}
-use Rattle.solver.specs.code.Chains.{Indexed}
+use Rattle.solver.specs.code.Sweep.{Index, Indexed}
 use Rattle.solver.specs.code.Working.{Lines}
 use Rattle.solver.specs.Solving.{solved_delay}
 use Rattle.solver.specs.declared.delays.Stop.{Stop}
@@ -40,14 +40,14 @@ pub record MasksStopped (G : Game) (d : ℕ) (before after : List ℕ) : Type 0 
   pub made : (words G d ≡ 1 → ⊥) → take (arena G d).nodes after ≡ masks (arena G d)
 
 -- the arrays hold a legal game whose numbers have room, and so do the buffers; the chains are those of its lines and cells
-pub record Searchable (p : List ℕ) (g : List (List ℕ)) (u f reaching lines leading cells : List ℕ) (start actions delay : ℕ)
+pub record Searchable (p : List ℕ) (g : List (List ℕ)) (u f : List ℕ) (x : Index) (start actions delay : ℕ)
     (masks ranks : List ℕ) : Type 0 where
   pub room : Room (length p) actions delay
   pub masks_room : nodes_of (length p) actions delay ≤ length masks
   pub ranks_room : nodes_of (length p) actions delay ≤ length ranks
   pub legal : Legal (view_of p g u f start actions)
   pub moves : Lines (view_of p g u f start actions) u
-  pub indexed : Indexed u g delay reaching lines leading cells
+  pub indexed : Indexed u g delay x
 
 -- bodies and a grid that the solver takes, and buffers with room for them
 pub record Fillable (p : List ℕ) (g : List (List ℕ)) (u : List ℕ) (start actions delay : ℕ) (masks ranks : List ℕ) : Type 0 where

@@ -1,9 +1,22 @@
 -- The nodes that a fallen node is an outcome of, as the chains give them. Assumes nothing.
 use Rattle.std.specs.Prelude.{ℕ, ◌+◌, ◌*◌, ◌/◌, ◌%◌, ◌≤◌, ◌<◌, ◌≡◌, List, [], ◌∷◌, ◌++◌, map, get_or}
 use Rattle.sheet.specs.Limits.{most_actions, most_nodes}
-use Rattle.solver.specs.declared.spread.Spot.{Spot}
 use Rattle.solver.specs.code.Sizes.{largest16}
 use Rattle.solver.specs.code.Chains.{chain, head_of}
+
+-- what falls with a node in round n: an action, chosen where a word's younger actions are rest; the node's word is both
+pub record Spot : Type 0 where
+  pub n : ℕ
+  pub words : ℕ
+  pub younger : ℕ
+  pub actions : ℕ
+  pub word : ℕ
+  pub rest : ℕ
+  pub action : ℕ
+
+abbrev pub spot : ℕ → ℕ → ℕ → ℕ → ℕ → ℕ → ℕ → Spot
+spot n words younger actions word rest action =
+    record { n = n; words = words; younger = younger; actions = actions; word = word; rest = rest; action = action }
 
 -- the numbers of a spot are small, and its word is the rest and the action
 pub record Spotted (s : Spot) : Type 0 where

@@ -3,11 +3,12 @@ use Rattle.std.specs.Prelude.{ℕ, zero, suc, ◌+◌, ◌*◌, ◌/◌, ◌%◌
 use mathlib.Core.List.{List, Memᴰ}
 use Rattle.theory.specs.Game.{to, Game}
 use Rattle.sheet.specs.Limits.{most_actions, most_nodes}
+use Rattle.sheet.specs.code.Arrays.{to_at, line_count}
 use Rattle.walk.specs.declared.level.Level.{Level}
-use Rattle.solver.specs.declared.spread.Spot.{Spot}
+use Rattle.solver.specs.code.Sizes.{most_cells}
 use Rattle.solver.specs.code.Work.{Work, marks_to}
-use Rattle.solver.specs.code.Chains.{head_of, chain}
-use Rattle.solver.specs.code.Spread.{even_nodes, odd_nodes}
+use Rattle.solver.specs.code.Chains.{head_of, chain, Linked, cell_key}
+use Rattle.solver.specs.code.Spread.{Spot, even_nodes, odd_nodes}
 
 -- the U body, and the chains of its lines and of the grid's cells
 pub record Index : Type 0 where
@@ -19,6 +20,12 @@ pub record Index : Type 0 where
 
 abbrev pub index : List ℕ → List ℕ → List ℕ → List ℕ → List ℕ → Index
 index u lh l ch c = record { moves = u; reaching = lh; lines = l; leading = ch; cells = c }
+
+-- the chains of the lines of a U body and of a grid's cells, where the delay asks for them
+pub record Indexed (u : List ℕ) (g : List (List ℕ)) (delay : ℕ) (x : Index) : Type 0 where
+  pub body : x.moves ≡ u
+  pub lines_linked : 2 ≤ delay → Linked (to_at u) (line_count u) x.reaching x.lines
+  pub cells_linked : 2 ≤ delay → Linked (cell_key g) most_cells x.leading x.cells
 
 -- a level with pending words: a word is its oldest action and one of so many younger words
 pub record Fitted (l : Level) (younger : ℕ) : Type 0 where

@@ -2,41 +2,35 @@
 use Rattle.solver.proofs.SearchLaws.{upward}
 use Rattle.solver.proofs.delays.search.Goals as goal
 
-pub loop-nodes-init : goal.loop-nodes-init
-loop-nodes-init c = search upward
+pub delays-init : goal.delays-init
+delays-init c = search upward
 
-pub level_at-level-requires : goal.level_at-level-requires
-level_at-level-requires c = search upward
-
-pub solve_level-n-requires : goal.solve_level-n-requires
-solve_level-n-requires c = search upward
-
-pub some_good-wins-requires : goal.some_good-wins-requires
-some_good-wins-requires c = search upward
-
-pub loop-nodes-preserved : goal.loop-nodes-preserved
-loop-nodes-preserved c = search upward
-
-pub returns-then-not-wins : goal.returns-then-not-wins
-returns-then-not-wins c = search upward
-
-pub returns-then-d-delay : goal.returns-then-d-delay
-returns-then-d-delay c = search upward
+pub delays-preserved : goal.delays-preserved
+delays-preserved c = search upward
 
 pub slice_bounds-solve_level-end : goal.slice_bounds-solve_level-end
 slice_bounds-solve_level-end c = search upward
 
-pub slice_bounds-solve_level-end-in-loop-nodes : goal.slice_bounds-solve_level-end-in-loop-nodes
-slice_bounds-solve_level-end-in-loop-nodes c = search upward
+pub slice_bounds-solve_level-end-in-delays : goal.slice_bounds-solve_level-end-in-delays
+slice_bounds-solve_level-end-in-delays c = search upward
 
-pub slice_bounds-solve_level-end-in-loop-nodes-2 : goal.slice_bounds-solve_level-end-in-loop-nodes-2
-slice_bounds-solve_level-end-in-loop-nodes-2 c = search upward
+pub slice_bounds-solve_level-end-in-delays-2 : goal.slice_bounds-solve_level-end-in-delays-2
+slice_bounds-solve_level-end-in-delays-2 c = search upward
 
-pub slice_bounds-solve_level-end-in-loop-nodes-3 : goal.slice_bounds-solve_level-end-in-loop-nodes-3
-slice_bounds-solve_level-end-in-loop-nodes-3 c = search upward
+pub slice_bounds-solve_level-end-in-delays-3 : goal.slice_bounds-solve_level-end-in-delays-3
+slice_bounds-solve_level-end-in-delays-3 c = search upward
 
-pub slice_bounds-some_good-end : goal.slice_bounds-some_good-end
-slice_bounds-some_good-end c = search upward
+pub solve_level-rounds-requires : goal.solve_level-rounds-requires
+solve_level-rounds-requires c = search upward
 
-pub slice_bounds-some_good-end-in-loop-nodes : goal.slice_bounds-some_good-end-in-loop-nodes
-slice_bounds-some_good-end-in-loop-nodes c = search upward
+pub slice_bounds-kept-end : goal.slice_bounds-kept-end
+slice_bounds-kept-end c = search upward
+
+pub slice_bounds-kept-end-in-delays : goal.slice_bounds-kept-end-in-delays
+slice_bounds-kept-end-in-delays c = search upward
+
+pub returns-then-not-wins : goal.returns-then-not-wins
+returns-then-not-wins c = search upward
+
+pub returns-then-d-l : goal.returns-then-d-l
+returns-then-d-l c = search upward

@@ -1,14 +1,14 @@
 -- `search` meets its contract. Every delay below d wins, and nothing beyond the nodes of delay d has changed. Assumes nothing.
-use Prim.Native.Nat.{◌-◌}
-use lib.ListN.{length}
+use Rattle.std.proofs.Common.{◌-◌, length}
 use Rattle.sheet.specs.Size.{nodes_of}
-use Rattle.sheet.specs.code.Arrays.{view_of}
+use Rattle.solver.specs.code.Views.{view_in}
 use Rattle.solver.proofs.SearchLaws.{Searched, Beyond}
 use Rattle.solver.proofs.delays.search.Given as goal
 
-abbrev pub invariant-loop-nodes : goal.invariant-loop-nodes
-invariant-loop-nodes l = Searched (view_of l.p l.grid l.u l.firsts l.start l.actions) (nodes_of (length l.p) l.actions l.d) l.delay l.d l.initial.ranks l.ranks
-    × Beyond (nodes_of (length l.p) l.actions l.d) l.initial.masks l.masks
+abbrev pub invariant-delays : goal.invariant-delays
+invariant-delays l =
+    let nodes = nodes_of (length l.arena.positions.now) l.l.actions l.d in
+    Searched (view_in l.arena l.l) nodes l.l.delay l.d l.initial.ranks l.ranks × Beyond nodes l.initial.masks l.masks
 
-abbrev pub decreases-loop-nodes : goal.decreases-loop-nodes
-decreases-loop-nodes l = l.delay - l.d
+abbrev pub decreases-delays : goal.decreases-delays
+decreases-delays l = l.l.delay - l.d

@@ -1,22 +1,48 @@
 -- `fill` meets its contract. Assumes nothing.
-use Prim.Native.Nat.{ℕ}
-use mathlib.Core.Path.{refl}
-use lib.ListN.{replicate, length-replicate}
-use Rattle.sheet.specs.Limits.{most_moves}
-use Rattle.solver.proofs.SolveLaws.{bodies_can, bodies_filled, none_linked, long_enough}
-use Rattle.solver.specs.code.Sizes.{most_cells}
+use Rattle.std.proofs.Common.{sym}
+use Rattle.solver.proofs.SolveLaws.{bodies_can, bodies_filled, sized_stop, most_stop, masks_front, masks_ready, fills, ranks_room, ranks_count, masks_room}
 use Rattle.solver.proofs.solve.fill.Goals as goal
 
-pub index-requires : goal.index-requires
-index-requires c = (
-  none_linked _ _ _ 257 most_moves refl refl refl,
-  long_enough (replicate most_moves 0) most_moves (length-replicate {A = ℕ} most_moves 0),
-  none_linked _ _ _ 257 most_cells refl refl refl,
-  long_enough (replicate most_cells 0) most_cells (length-replicate {A = ℕ} most_cells 0),
+pub search-stop-requires : goal.search-stop-requires
+search-stop-requires c = bodies_can _ _ _ _ _ _ _ _ c.requires.1 _ c.requires.0 _ c.index_of-index.ensures
+
+pub slice_bounds-fallen-end : goal.slice_bounds-fallen-end
+slice_bounds-fallen-end c = let s = c.search-stop.ensures in
+    let can = bodies_can _ _ _ _ _ _ _ _ c.requires.1 _ c.requires.0 _ c.index_of-index.ensures in
+    let l = c.level_at-level.ensures in
+    ranks_room _ _ _ _ _ _ _ _ _ _ can _ _ _ s.0 s.1 _ l
+
+pub slice_bounds-fallen-end-2 : goal.slice_bounds-fallen-end-2
+slice_bounds-fallen-end-2 c = let s = c.search-stop.ensures in
+    let can = bodies_can _ _ _ _ _ _ _ _ c.requires.1 _ c.requires.0 _ c.index_of-index.ensures in
+    let l = c.level_at-level.ensures in
+    sym (ranks_count _ _ _ _ _ _ _ _ _ _ can _ _ _ s.0 s.1 _ l)
+
+pub slice_bounds-mask_level-end : goal.slice_bounds-mask_level-end
+slice_bounds-mask_level-end c = let s = c.search-stop.ensures in
+    let can = bodies_can _ _ _ _ _ _ _ _ c.requires.1 _ c.requires.0 _ c.index_of-index.ensures in
+    let l = c.level_at-level.ensures in
+    masks_room _ _ _ _ _ _ _ _ _ _ can _ _ _ s.0 s.1 _ l
+
+pub slice_bounds-mask_level-end-2 : goal.slice_bounds-mask_level-end-2
+slice_bounds-mask_level-end-2 c = let s = c.search-stop.ensures in
+    let can = bodies_can _ _ _ _ _ _ _ _ c.requires.1 _ c.requires.0 _ c.index_of-index.ensures in
+    let l = c.level_at-level.ensures in
+    sym (masks_front _ _ _ _ _ _ _ _ _ _ can _ _ _ s.0 s.1 _ l)
+
+pub mask_level-requires : goal.mask_level-requires
+mask_level-requires c = let s = c.search-stop.ensures in
+    let can = bodies_can _ _ _ _ _ _ _ _ c.requires.1 _ c.requires.0 _ c.index_of-index.ensures in
+    let l = c.level_at-level.ensures in
+    (
+  sized_stop _ _ _ _ _ _ _ _ _ _ can _ _ _ s.0 s.1 _ l,
+  most_stop _ _ _ _ _ _ _ _ _ _ can _ _ _ s.0 s.1 _ l,
+  masks_front _ _ _ _ _ _ _ _ _ _ can _ _ _ s.0 s.1 _ l,
+  masks_ready _ _ _ _ _ _ _ _ _ _ can _ _ _ s.0 s.1 _ l,
 )
 
-pub fill_by-requires : goal.fill_by-requires
-fill_by-requires c = bodies_can _ _ _ _ _ _ _ _ c.requires _ c.first_lines-firsts.ensures _ _ _ _ c.index.ensures
-
 pub returns : goal.returns
-returns c = bodies_filled _ _ _ _ _ _ _ _ c.requires _ c.first_lines-firsts.ensures c.fill_by.ensures
+returns c = let s = c.search-stop.ensures in
+    let can = bodies_can _ _ _ _ _ _ _ _ c.requires.1 _ c.requires.0 _ c.index_of-index.ensures in
+    let l = c.level_at-level.ensures in
+    bodies_filled _ _ _ _ _ _ _ _ c.requires.1 _ c.requires.0 (fills _ _ _ _ _ _ _ _ _ _ can _ _ _ s.0 s.1 _ l c.mask_level.ensures)

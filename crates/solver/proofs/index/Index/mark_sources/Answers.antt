@@ -1,0 +1,16 @@
+-- `mark_sources` meets its contract. What is to be marked from here on is all that was to be marked. Assumes nothing.
+use Rattle.std.proofs.Common.{rules}
+use Rattle.solver.specs.code.Spread.{sources}
+use Rattle.solver.proofs.SpreadLaws.{marks_step, marks_done}
+use Rattle.solver.proofs.index.Index.mark_sources.Goals as goal
+
+pub loop-i-init : goal.loop-i-init
+unfolding sources
+loop-i-init c = (search rules, cc)
+
+pub loop-i-preserved : goal.loop-i-preserved
+loop-i-preserved c =
+    (search rules, marks_step _ _ _ _ c.loop-i.invariant.1 c.in-Some.ensures.steps.0 c.source_at.ensures c.mark.ensures.1)
+
+pub returns : goal.returns
+returns c = (c.loop-i.invariant.0, marks_done _ _ _ _ c.loop-i.invariant.1 c.in-None.ensures.steps.0.0)

@@ -1,0 +1,58 @@
+-- The code's structs, seen as what the definitions speak of. Assumes nothing.
+use Rattle.std.specs.Prelude.{ℕ, ◌≡◌, List, length}
+use Rattle.theory.specs.Game.{Game}
+use Rattle.sheet.specs.code.Arrays.{view_of, firsts_of, bodies_game}
+use Rattle.reader.specs.declared.reading.Layout.{Layout}
+use Rattle.walk.specs.declared.arena.Arena.{Arena}
+use Rattle.solver.specs.declared.index.Index.{Index}
+use Rattle.solver.specs.declared.mark.Worklist.{Worklist}
+use Rattle.solver.specs.declared.spread.Spot.{Spot}
+use Rattle.solver.specs.code.Spread as spread
+use Rattle.solver.specs.code.Sweep as sweep
+use Rattle.solver.specs.code.Work.{Work, work}
+use Rattle.solver.specs.code.Working.{Workable, Levelable}
+use Rattle.solver.specs.code.Search.{Searchable, Fillable}
+
+abbrev pub listed : Worklist → Work
+listed w = work w.ranks.now w.masks.now w.queue.now w.tail
+
+-- the same buffers, for as many nodes
+abbrev pub Same : Worklist → Worklist → Type 0
+Same before after =
+    (after.ranks.ghost_name ≡ before.ranks.ghost_name)
+    × (after.masks.ghost_name ≡ before.masks.ghost_name)
+    × (after.queue.ghost_name ≡ before.queue.ghost_name)
+    × (length after.masks.now ≡ length before.masks.now)
+
+-- the same buffers, at this state
+abbrev pub Turned : Worklist → Work → Worklist → Type 0
+Turned before w after = Same before after × (listed after ≡ w)
+
+abbrev pub spotted : Spot → spread.Spot
+spotted s = spread.spot s.n s.words s.younger s.actions s.word s.rest s.action
+
+abbrev pub indexed : Index → sweep.Index
+indexed x = sweep.index x.moves.now x.reaching.heads x.reaching.links x.leading.heads x.leading.links
+
+-- the arena and the index of a level that can be solved by the worklist, where a word has so many younger words; and of any level
+abbrev pub CanWork : Arena → Index → ℕ → Type 0
+CanWork a x younger = Workable a.positions.now a.grid.now a.moves.now a.firsts.now (indexed x) a.level younger
+
+abbrev pub CanLevel : Arena → Index → Type 0
+CanLevel a x = Levelable a.positions.now a.grid.now a.moves.now a.firsts.now (indexed x) a.level
+
+-- the game that an arena's arrays hold, with the numbers of a sheet; the same by its bodies
+abbrev pub view_in : Arena → Layout → Game
+view_in a l = view_of a.positions.now a.grid.now a.moves.now a.firsts.now l.start l.actions
+
+abbrev pub game_in : Arena → Layout → Game
+game_in a l = bodies_game a.positions.now a.grid.now a.moves.now l.start l.actions
+
+-- what the search upward needs, and filling both buffers; the masks come first
+abbrev pub CanSearch : Arena → Index → Layout → List ℕ → List ℕ → Type 0
+CanSearch a x l masks ranks =
+    Searchable a.positions.now a.grid.now a.moves.now a.firsts.now (indexed x) l.start l.actions l.delay masks ranks
+
+abbrev pub CanFill : Arena → Layout → List ℕ → List ℕ → Type 0
+CanFill a l masks ranks =
+    (a.firsts.now ≡ firsts_of a.moves.now) × Fillable a.positions.now a.grid.now a.moves.now l.start l.actions l.delay masks ranks

@@ -1,0 +1,101 @@
+// The chains of places 0, 1, .. by their keys: a chain leads from the last place that has its key to the one before. A link is a
+// place + 1, and 0 is the end.
+ghost use Rattle.std.specs.Prelude.{◌≡◌, ℕ, ◌+◌, ◌<◌, ◌≤◌, IfSome, length, get_or, set};
+ghost use Rattle.std.specs.Iterator.{YieldsFirst, at_most};
+ghost use Rattle.solver.specs.code.Sizes.{largest16};
+ghost use Rattle.solver.specs.code.Chains.{Linked, chain, head_of};
+
+use sheet::limits::INDEX;
+
+// So many places are linked, out of N.
+#[derive(Drop)]
+pub(crate) struct Chain<const N: usize> {
+    pub(crate) heads: [u16; INDEX],
+    pub(crate) links: [u16; N],
+    pub(crate) count: usize,
+    ghost heads_end: { (x : _) → get_or heads x 0 ≤ count },
+    ghost links_end: { (i : _) → get_or links i 0 ≤ i },
+    ghost whole: { length links ≡ N },
+    ghost room: { count ≤ N },
+    ghost few: { N < largest16 },
+}
+
+impl<const N: usize> Chain<N> {
+    // No place yet.
+    pub(crate) fn new() -> Chain<N>
+        requires { N < largest16 }
+        ensures none { result.count ≡ 0 }
+        ensures linked { (f : ℕ → ℕ) → Linked f 0 result.heads result.links }
+    {
+        let heads = [0; INDEX];
+        let links = [0; N];
+        Chain { heads, links, count: 0 }
+    }
+
+    // Places 0 to n - 1, by their keys.
+    pub(crate) fn of<K: Fn(usize) -> usize>(n: usize, key: K) -> Chain<N>
+        requires few { N < largest16 }
+        requires room { n ≤ N }
+        requires callable { (i : _) → i < n → K.pre key i }
+        ensures { (f : ℕ → ℕ) → ((i r : ℕ) → i < n → K.post key i r → r ≡ f i) → Linked f n result.heads result.links }
+    {
+        let mut chain = Chain::new();
+        for i in 0..n {
+            chain.push(key(i));
+        }
+        chain
+    }
+
+    // The next place has key x, and goes in front of its chain. A key that there cannot be has none.
+    fn push(&mut self, x: usize)
+        requires { self.old.count < N }
+        ensures count { self.new.count ≡ self.old.count + 1 }
+        ensures heads { self.new.heads ≡ set self.old.heads x (self.old.count + 1) }
+        ensures links { self.new.links ≡ set self.old.links self.old.count (get_or self.old.heads x 0) }
+    {
+        let i = self.count;
+        self.count += 1;
+        if INDEX <= x {
+            self.links[i] = 0;
+            return;
+        }
+        self.links[i] = self.heads[x];
+        self.heads[x] = (i + 1) as u16;
+    }
+
+    // The places with key x.
+    #[tactic(auto, unfolding(crate::specs::code::Chains::head_of))]
+    pub(crate) fn places(&self, x: usize) -> Places<'_, N>
+        ensures { (result.links.now ≡ self.now.links) × (result.at ≡ head_of self.now.heads x) }
+    {
+        let at = if x < INDEX { usize::from(self.heads[x]) } else { 0 };
+        Places { links: &self.links, at }
+    }
+}
+
+// What is left of a chain, from a link on.
+#[derive(Drop)]
+pub(crate) struct Places<'a, const N: usize> {
+    links: &'a [u16; N],
+    at: usize,
+    ghost links_end: { (i : _) → get_or links.now i 0 ≤ i },
+    ghost inside: { at ≤ N },
+    ghost few: { N < largest16 },
+}
+
+impl<const N: usize> Iterator for Places<'_, N> {
+    type Item = usize;
+
+    ghost next_gives = { λ s r t. YieldsFirst (λ s. chain s.links.now s.at) s r t × IfSome r (λ i. i < N) };
+
+    ghost remaining = { λ s. at_most s.at };
+
+    fn next(&mut self) -> Option<usize> {
+        if self.at == 0 {
+            return None;
+        }
+        let i = self.at - 1;
+        self.at = usize::from(self.links[i]);
+        Some(i)
+    }
+}
