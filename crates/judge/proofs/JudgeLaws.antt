@@ -1,36 +1,32 @@
 -- Judging, as the code of src/judging.rt does it. Assumes nothing.
-use Prim.Native.Nat.{ℕ, suc, ◌+◌, ◌≤◌, ◌<◌}
+use Prim.Native.Nat.{ℕ, zero, suc, ◌≤◌, ◌<◌}
 use mathlib.Core.Path.{◌≡◌, refl, sym, ◌∙◌, ap}
 use mathlib.Core.Bool.{Bool, true, false, not}
 use mathlib.Core.List.{List}
 use native.Mathlib.Omega.{arith}
-use mir.Val.{Fits as Fits64}
-use mir.Syntax.{w64}
 use lib.Dec.{eqb}
-use lib.ListN.{length, get_or, replicate}
+use lib.ListN.{length, get_or, replicate, length-replicate}
+use Rattle.std.proofs.Common.{Option, Some, None, Result, Ok, Err, cond}
 use borrow.Author.Rules.{rules}
-use borrow.Author.Tests.{eq-eqb, ne_eqb}
 use Rattle.theory.specs.Fold.{all_below, first_not}
-use Rattle.theory.specs.Answer.{Answer, refused, accepted, on_accepted}
+use Rattle.theory.specs.Answer.{refused, accepted, on_accepted}
 use Rattle.theory.specs.Game.{Game}
 use Rattle.theory.specs.Delay.{initial_words, arena}
 use Rattle.theory.specs.Table.{Table}
 use Rattle.theory.specs.Rounds.{Arena}
 use Rattle.theory.specs.Judging.{word_ok, node_ok, Ruling, bad_word, bad_node, sound, ruling}
 use Rattle.theory.proofs.Answer.{check_failed}
-use Rattle.theory.proofs.Fold.{both_none, both_false, both_second, either_left, either_second, failed, passed, all_none, all_next, all_done, first_stops, first_ends, first_stopped, first_ended, first_same}
+use Rattle.theory.proofs.Fold.{both_none, both_false, both_second, either_left, either_second, failed, passed, all_none, all_next, all_done, first_stops, first_ends, first_stopped, first_same, all_same}
 use Rattle.sheet.specs.Form.{part_at}
 use Rattle.sheet.specs.Limits.{most_words, most_nodes}
 use Rattle.sheet.specs.Bodies.{delay_of}
 use Rattle.reader.specs.code.Laid.{grid_at}
-use Rattle.reader.specs.Reading.{read_answer, reading_means, refusal_number}
-use Rattle.sheet.specs.Refusals.{number_of}
+use Rattle.reader.specs.Reading.{read_answer}
+use Rattle.sheet.specs.Refusals.{number_of, answer_of, answer_by}
 use Rattle.sheet.specs.SheetGame.{game_of}
 use Rattle.sheet.specs.code.Arrays.{firsts_of, view_of, bodies_game}
 use Rattle.sheet.specs.declared.refusal.Refusal.{Refusal}
 use Rattle.reader.specs.declared.reading.Layout.{Layout}
-use Rattle.reader.specs.declared.reading.Reading.{Reading}
-use Rattle.reader.specs.declared.reading.Reading.TheVariants as reading
 use Rattle.reader.proofs.Accepted.{carries, few_nodes, arena_nodes, read_accepted, read_refused}
 use Rattle.reader.proofs.Legality.{legal_game}
 use Rattle.walk.specs.declared.level.Level.{Level}
@@ -40,86 +36,63 @@ use Rattle.walk.proofs.LevelLaws.{arena_is}
 use Rattle.walk.proofs.NodeLaws.{node_tested}
 use Rattle.region.specs.code.Flags.{flags_after}
 use Rattle.region.proofs.ReadLaws.{game_read, is_level, sized_read}
-use Rattle.table.specs.TableSheet.{table_at, table_answer, table_reading_means}
+use Rattle.table.specs.TableSheet.{table_at, table_answer}
 use Rattle.table.specs.declared.reading.TableLayout.{TableLayout}
-use Rattle.table.specs.declared.reading.TableReading.{TableReading}
-use Rattle.table.specs.declared.reading.TableReading.TheVariants as table
 use Rattle.table.proofs.Accepted.{table_accepted}
 use Rattle.judge.specs.Judging.{sheets_agree, judge_answer}
 use Rattle.rule.specs.code.Parts.{marks_after, Marked, part_in}
 use Rattle.rule.proofs.PartCode.{after_marked}
-use Rattle.judge.specs.code.Tests.{whole_at, flag_stands, good_flags}
+use Rattle.judge.specs.code.Tests.{whole_at, flag_stands, good_flags, first_failing}
 use Rattle.judge.specs.code.Judgeable.{table_with, layouts_agree, Judgeable}
 use Rattle.judge.proofs.PartLaws.{node_is}
 use Rattle.judge.proofs.WordLaws.{flag_is}
 use Rattle.judge.proofs.Accepted.{agrees, agreed_fits, ruling_is}
 
--- check 21; h is the highest position as a number
-
-module _ (l : Layout) (x : TableLayout) where
-  pub start_differs : (x.start ≡ l.start → ⊥) → false ≡ layouts_agree l x
-  unfolding layouts_agree
-  start_differs n = sym (both_none _ _ (ne_eqb _ _ n))
-
-  pub actions_differ : (x.actions ≡ l.actions → ⊥) → false ≡ layouts_agree l x
-  unfolding layouts_agree
-  actions_differ n = sym (both_false _ _ (both_none _ _ (ne_eqb _ _ n)))
-
-  pub delay_differs : (x.delay ≡ l.delay → ⊥) → false ≡ layouts_agree l x
-  unfolding layouts_agree
-  delay_differs n = sym (both_false _ _ (both_false _ _ (both_none _ _ (ne_eqb _ _ n))))
-
-  pub layouts_end : (h : ℕ) → x.start ≡ l.start → x.actions ≡ l.actions → x.delay ≡ l.delay → h ≡ x.highest
-      → eqb (h + 1) l.positions.size ≡ layouts_agree l x
-  unfolding layouts_agree
-  layouts_end h a b c e =
-      rw e
-      (sym
-      (both_second _ _ (eq-eqb _ _ a)
-      ∙ both_second _ _ (eq-eqb _ _ b)
-      ∙ both_second _ _ (eq-eqb _ _ c)))
-
-pub highest_fits : {h x : ℕ} → h ≡ x → x < 256 → Fits64 w64 (h + 1)
-highest_fits e l = record { fits = omega arith }
-
-pub ruleset agreeing = (rules, start_differs, actions_differ, delay_differs, layouts_end, highest_fits)
-
--- a flag that stands
-
-module _ (flags good : List ℕ) (v : ℕ) {b : ℕ} (e : b ≡ get_or flags v 0) where
-  pub flag_none : b ≡ 0 → true ≡ flag_stands flags good v
-  unfolding flag_stands
-  flag_none z = sym (either_left _ _ (eq-eqb _ 0 (sym e ∙ z)))
-
-  pub flag_good : {c : ℕ} → (b ≡ 0 → ⊥) → c ≡ get_or good v 0 → not (eqb c 0) ≡ flag_stands flags good v
-  unfolding flag_stands
-  flag_good n f = rw f (sym (either_second _ _ (ne_eqb _ 0 (λ z. n (e ∙ z)))))
-
-pub ruleset a_flag = (rules, flag_none, flag_good)
-
 -- the searches: the first index of which a test does not hold
 
-pub search_stops : (p : ℕ → Bool) (i : ℕ) {n : ℕ} {r : Bool} → i < n → all_below p i ≡ true → r ≡ p i → not r ≡ true → i ≡ first_not p (suc n)
-search_stops p i h a e f = first_stops p i h a (failed e f)
+pub search_stops : (p : ℕ → Bool) (i : ℕ) {n : ℕ} {r : Bool} → i < n → all_below p i ≡ true → r ≡ p i → not r ≡ true
+    → Some i ≡ first_failing p n
+unfolding first_failing
+search_stops p i h a e f =
+    let x = first_stopped p (first_stops p i h a (failed e f)) h in
+    rw x.0 (ap Some x.1)
 
-pub search_ends : (p : ℕ → Bool) (i n : ℕ) → i ≤ n → n ≤ i → all_below p i ≡ true → n ≡ first_not p (suc n)
-search_ends p i n h g a = first_ends p (omega arith) (omega arith) (all_done p h g a)
+pub search_ends : (p : ℕ → Bool) (i n : ℕ) → i ≤ n → n ≤ i → all_below p i ≡ true → None ≡ first_failing p n
+unfolding first_failing
+search_ends p i n h g a = rw (all_done p h g a)
 
 pub ruleset searching = (rules, all_none, all_next, search_stops, search_ends)
 
+-- what they say
+
+found_at : (b : Bool) {i v : ℕ} → Some v ≡ cond b None (Some i) → (b ≡ false) × (v ≡ i)
+found_at true e = cc
+found_at false e = (refl, cc)
+
+found_none : (b : Bool) (i : ℕ) → None ≡ cond b None (Some i) → b ≡ true
+found_none true i e = refl
+found_none false i e = cc
+
+module _ (p : ℕ → Bool) (n : ℕ) where
+  failing : {v : ℕ} → Some v ≡ first_failing p n → (all_below p n ≡ false) × (v ≡ first_not p n)
+  unfolding first_failing
+  failing e = found_at (all_below p n) e
+
+  passing : None ≡ first_failing p n → all_below p n ≡ true
+  unfolding first_failing
+  passing e = found_none (all_below p n) (first_not p n) e
+
+failing_same : (p q : ℕ → Bool) (n : ℕ) → ((i : ℕ) → i < n → p i ≡ q i) → first_failing p n ≡ first_failing q n
+unfolding first_failing
+failing_same p q zero f = rw (all_none p, all_none q)
+failing_same p q (suc n) f = rw (all_same p q (suc n) f, first_same p q n (λ i h. f i (omega arith)))
+
 -- the words' search goes by flags in a buffer
 
-module _ (s flags marks : List ℕ) {r : ℕ} where
-  pub wrong_in : (before after : List ℕ) → after ≡ flags_after s marks before → r ≡ first_not (flag_stands flags after) (suc (length flags))
-      → r ≡ first_not (flag_stands flags (flags_after s marks before)) (suc (length flags))
-  wrong_in before after e q = q ∙ ap (λ good. first_not (flag_stands flags good) (suc (length flags))) e
-
-  pub wrong_first : r ≡ first_not (flag_stands flags (flags_after s marks (replicate most_words 0))) (suc (length flags))
-      → r ≡ first_not (flag_stands flags (good_flags s marks)) (suc (length flags))
-  unfolding good_flags
-  wrong_first q = q
-
-pub ruleset wrong_words = (rules, wrong_in, wrong_first)
+pub wrong_first : (s marks flags : List ℕ) {good : List ℕ} {r : Option ℕ} → good ≡ flags_after s marks (replicate most_words 0)
+    → r ≡ first_failing (flag_stands flags good) (length flags) → r ≡ first_failing (flag_stands flags (good_flags s marks)) (length flags)
+unfolding good_flags
+wrong_first s marks flags e q = q ∙ ap (λ good. first_failing (flag_stands flags good) (length flags)) e
 
 -- a node that exists
 
@@ -128,22 +101,20 @@ pub whole_here : (p : List ℕ) (g : List (List ℕ)) (u f : List ℕ) (l : Leve
 unfolding whole_at part_in
 whole_here p g u f l marks masks k z h e q = rw (q, node_tested (length p) l k z h, e)
 
-pub ruleset wholes = (rules, whole_here)
-
 -- the arrays of a sheet that was read; p and u are its P and U bodies
 
 module _ (s : List ℕ) (l : Layout) (reads : read_answer s ≡ accepted l) (p : List ℕ) (ep : p ≡ part_at s l.positions) (v : Level)
     (made : v ≡ level_to (length p) l.start l.actions l.delay) where
   level_is : v ≡ level_at (length p) l.start l.actions l.delay
-  level_is = is_level s (reading.Accepted l) (sym reads) l refl p ep v made
+  level_is = is_level s (Ok l) (sym reads) l refl p ep v made
 
   pub sized_here : Sized (length p) v
-  sized_here = sized_read s (reading.Accepted l) (sym reads) l refl p ep v made
+  sized_here = sized_read s (Ok l) (sym reads) l refl p ep v made
 
   module _ (u : List ℕ) (g : List (List ℕ)) (f : List ℕ) (eg : g ≡ grid_at s l) (eu : u ≡ part_at s l.moves) (ef : f ≡ firsts_of u) where
     game_here : view_of p g u f l.start l.actions ≡ game_of s
     unfolding bodies_game
-    game_here = rw ef (game_read s (reading.Accepted l) (sym reads) l refl p ep g u eg eu)
+    game_here = rw ef (game_read s (Ok l) (sym reads) l refl p ep g u eg eu)
 
     arena_here_lem : arena_of p g u f v ≡ arena (game_of s) (delay_of s)
     arena_here_lem =
@@ -155,12 +126,12 @@ module _ (s : List ℕ) (l : Layout) (reads : read_answer s ≡ accepted l) (p :
     unfolding arena_of view_of
     nodes_here = sized_here.all_nodes ∙ ap (λ (E : Arena). E.nodes) arena_here_lem
 
-    pub node_search : (marks masks : List ℕ) {r : ℕ} → r ≡ first_not (whole_at (arena_of p g u f v) marks masks) (suc v.nodes)
-        → r ≡ first_not (whole_at (arena (game_of s) (delay_of s)) marks masks) (suc (arena (game_of s) (delay_of s)).nodes)
+    pub node_search : (marks masks : List ℕ) {r : Option ℕ} → r ≡ first_failing (whole_at (arena_of p g u f v) marks masks) v.nodes
+        → r ≡ first_failing (whole_at (arena (game_of s) (delay_of s)) marks masks) (arena (game_of s) (delay_of s)).nodes
     node_search marks masks e =
         e
-        ∙ ap (λ n. first_not (whole_at (arena_of p g u f v) marks masks) (suc n)) nodes_here
-        ∙ ap (λ E. first_not (whole_at E marks masks) (suc (arena (game_of s) (delay_of s)).nodes)) arena_here_lem
+        ∙ ap (first_failing (whole_at (arena_of p g u f v) marks masks)) nodes_here
+        ∙ ap (λ E. first_failing (whole_at E marks masks) (arena (game_of s) (delay_of s)).nodes) arena_here_lem
 
 pub ruleset node_laws = (rules, sized_here, node_search)
 
@@ -176,40 +147,41 @@ module _ (s : List ℕ) (l : Layout) (flags masks : List ℕ) (j : Judgeable s l
   abbrev T : Table
   T = table_with flags masks
 
-  marks_room : {n : ℕ} → most_nodes ≤ n → length masks ≤ n
-  marks_room h = let f = few_nodes s l j.reads in omega (arith, j.fits.masks_length, arena_nodes s d)
+  marks_room : length masks ≤ most_nodes
+  marks_room = let f = few_nodes s l j.reads in omega (arith, j.fits.masks_length, arena_nodes s d)
 
-  pub marks_made : (before : List ℕ) {marks : List ℕ} → marks ≡ marks_after masks before → most_nodes ≤ length before → Marked masks marks
-  marks_made before e h = rw e (after_marked masks before (marks_room h))
+  pub marks_made : {marks : List ℕ} → marks ≡ marks_after masks (replicate most_nodes 0) → Marked masks marks
+  marks_made e =
+      rw e (after_marked masks (replicate most_nodes 0) (rw (length-replicate {A = ℕ} most_nodes 0) marks_room))
 
-  module _ (marks : List ℕ) (marked : Marked masks marks) {v : ℕ}
-      (ev : v ≡ first_not (flag_stands flags (good_flags s marks)) (suc (length flags))) where
-    word_found : v ≡ first_not (word_ok G d T) (suc (initial_words G d))
-    word_found = (rw j.fits.flags_length at ev) ∙ first_same _ _ (initial_words G d) (flag_is s l flags masks j marks marked)
+  module _ (marks : List ℕ) (marked : Marked masks marks) {w : Option ℕ}
+      (ew : w ≡ first_failing (flag_stands flags (good_flags s marks)) (length flags)) where
+    word_found : w ≡ first_failing (word_ok G d T) (initial_words G d)
+    word_found = (rw j.fits.flags_length at ew) ∙ failing_same _ _ (initial_words G d) (flag_is s l flags masks j marks marked)
 
-    pub judged_word : v < length flags → accepted (bad_word v) ≡ accepted (ruling G d T)
+    pub judged_word : (v : ℕ) → w ≡ Some v → bad_word v ≡ ruling G d T
     unfolding ruling
-    judged_word h =
-        let x = first_stopped (word_ok G d T) word_found (rw j.fits.flags_length at h) in
-        ap (λ i. accepted (bad_word i)) x.1 ∙ rw x.0
+    judged_word v e =
+        let x = failing (word_ok G d T) (initial_words G d) (sym e ∙ word_found) in
+        ap bad_word x.1 ∙ rw x.0
 
-    module _ (h : length flags ≤ v) {k : ℕ} (ek : k ≡ first_not (whole_at (arena G d) marks masks) (suc (arena G d).nodes)) where
+    module _ (h : w ≡ None) {n : Option ℕ} (en : n ≡ first_failing (whole_at (arena G d) marks masks) (arena G d).nodes) where
       words_pass : all_below (word_ok G d T) (initial_words G d) ≡ true
-      words_pass = first_ended (word_ok G d T) word_found (rw j.fits.flags_length at h)
+      words_pass = passing (word_ok G d T) (initial_words G d) (sym h ∙ word_found)
 
-      node_found : k ≡ first_not (node_ok (arena G d) T) (suc (arena G d).nodes)
-      node_found = ek ∙ first_same _ _ (arena G d).nodes (node_is G (legal_game s l j.reads) d T j.fits marks marked)
+      node_found : n ≡ first_failing (node_ok (arena G d) T) (arena G d).nodes
+      node_found = en ∙ failing_same _ _ (arena G d).nodes (node_is G (legal_game s l j.reads) d T j.fits marks marked)
 
-      pub judged_node : {n : ℕ} → n ≡ length masks → k < n → accepted (bad_node k) ≡ accepted (ruling G d T)
+      pub judged_node : (k : ℕ) → n ≡ Some k → bad_node k ≡ ruling G d T
       unfolding ruling
-      judged_node e i =
-          let x = first_stopped (node_ok (arena G d) T) node_found (rw (e, j.fits.masks_length) at i) in
-          ap (λ i. accepted (bad_node i)) x.1 ∙ rw (words_pass, x.0)
+      judged_node k e =
+          let x = failing (node_ok (arena G d) T) (arena G d).nodes (sym e ∙ node_found) in
+          ap bad_node x.1 ∙ rw (words_pass, x.0)
 
-      pub judged_sound : {n : ℕ} → n ≡ length masks → n ≤ k → accepted sound ≡ accepted (ruling G d T)
+      pub judged_sound : n ≡ None → sound ≡ ruling G d T
       unfolding ruling
-      judged_sound e i =
-          let x = first_ended (node_ok (arena G d) T) node_found (rw (e, j.fits.masks_length) at i) in
+      judged_sound e =
+          let x = passing (node_ok (arena G d) T) (arena G d).nodes (sym e ∙ node_found) in
           rw (words_pass, x)
 
 pub ruleset rulings = (rules, marks_made, judged_word, judged_node, judged_sound)
@@ -222,30 +194,30 @@ agree_layouts s t l x reads = let c = carries s l reads in rw (c.start, c.action
 
 -- the checks; rd and y are the two readings
 
-module _ (s t : List ℕ) (rd : Reading) (e : reading_means rd ≡ read_answer s) where
-  pub game_refused : (x : Refusal) (n : ℕ) → rd ≡ reading.Refused x → n ≡ refusal_number rd → refused n ≡ judge_answer s t
+module _ (s t : List ℕ) (rd : Result Layout Refusal) (e : answer_of rd ≡ read_answer s) where
+  pub game_refused : (x : Refusal) → rd ≡ Err x → refused (number_of x) ≡ judge_answer s t
   unfolding judge_answer on_accepted
-  game_refused x n f g = rw (read_refused s rd e x n f g)
+  game_refused x f = rw (read_refused s rd e x f)
 
-  module _ (l : Layout) (a : rd ≡ reading.Accepted l) (y : TableReading) (ey : table_reading_means t y ≡ table_answer t) where
+  module _ (l : Layout) (a : rd ≡ Ok l) (y : Result TableLayout Refusal) (ey : answer_by (table_at t) y ≡ table_answer t) where
     reads : read_answer s ≡ accepted l
     reads = read_accepted s rd e l a
 
-    pub table_refused : (x : Refusal) (n : ℕ) → y ≡ table.Refused x → n ≡ number_of x → refused n ≡ judge_answer s t
+    pub table_refused : (x : Refusal) → y ≡ Err x → refused (number_of x) ≡ judge_answer s t
     unfolding judge_answer on_accepted
-    table_refused x n f g =
-        let z : table_answer t ≡ refused (number_of x) = sym ey ∙ ap (table_reading_means t) f in rw (reads, z, g)
+    table_refused x f =
+        let z : table_answer t ≡ refused (number_of x) = sym ey ∙ ap (answer_by (table_at t)) f in rw (reads, z)
 
-    module _ (x : TableLayout) (b : y ≡ table.Accepted x) {r : Bool} (er : r ≡ layouts_agree l x) where
+    module _ (x : TableLayout) (b : y ≡ Ok x) {r : Bool} (er : r ≡ layouts_agree l x) where
       readable : table_answer t ≡ accepted (table_at t x)
-      readable = sym ey ∙ ap (table_reading_means t) b
+      readable = sym ey ∙ ap (answer_by (table_at t)) b
 
       agree_is : layouts_agree l x ≡ sheets_agree s (table_at t x)
       agree_is = agree_layouts s t l x reads
 
-      pub mismatch : (n : ℕ) → not r ≡ true → n ≡ 21 → refused n ≡ judge_answer s t
+      pub mismatch : not r ≡ true → refused 21 ≡ judge_answer s t
       unfolding judge_answer on_accepted
-      mismatch n f q = rw (q, reads, readable) (sym (check_failed _ 21 _ (sym agree_is ∙ failed er f)))
+      mismatch f = rw (reads, readable) (sym (check_failed _ 21 _ (sym agree_is ∙ failed er f)))
 
       module _ (f : not r ≡ false) (flags masks : List ℕ) (ef : flags ≡ part_at t x.flags) (em : masks ≡ part_at t x.masks) where
         agreed : sheets_agree s (table_at t x) ≡ true
@@ -260,7 +232,7 @@ module _ (s t : List ℕ) (rd : Reading) (e : reading_means rd ≡ read_answer s
                   (agreed_fits s (table_at t x) (agrees s (table_at t x) agreed) (table_accepted t (table_at t x) readable).1);
             }
 
-        pub judged : (z : Answer Ruling) → z ≡ accepted (ruling (game_of s) (delay_of s) (table_with flags masks)) → z ≡ judge_answer s t
-        judged z q = q ∙ rw (ef, em) (sym (ruling_is s t l (table_at t x) reads readable agreed))
+        pub judged : (z : Ruling) → z ≡ ruling (game_of s) (delay_of s) (table_with flags masks) → accepted z ≡ judge_answer s t
+        judged z q = ap accepted (q ∙ rw (ef, em) refl) ∙ sym (ruling_is s t l (table_at t x) reads readable agreed)
 
 pub ruleset judgings = (rules, game_refused, table_refused, mismatch, judgeable, judged)

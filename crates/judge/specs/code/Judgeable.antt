@@ -1,9 +1,8 @@
 -- What is known of the two sheets once every check has passed. Assumes nothing.
 use Rattle.std.specs.Prelude.{ℕ, ◌+◌, ◌≡◌, Bool, List, eqb}
 use Rattle.theory.specs.Fold.{both}
-use Rattle.theory.specs.Answer.{Answer, accepted}
+use Rattle.theory.specs.Answer.{accepted}
 use Rattle.theory.specs.Table.{Table, TableFits}
-use Rattle.theory.specs.Judging.{Ruling, ruling}
 use Rattle.sheet.specs.Bodies.{delay_of}
 use Rattle.reader.specs.Reading.{read_answer}
 use Rattle.sheet.specs.SheetGame.{game_of}
@@ -13,10 +12,6 @@ use Rattle.table.specs.declared.reading.TableLayout.{TableLayout}
 -- the table of a W and a T body
 abbrev pub table_with : List ℕ → List ℕ → Table
 table_with flags masks = record { flags = flags; masks = masks }
-
--- the answer once every check has passed
-abbrev pub ruled_on : List ℕ → List ℕ → List ℕ → Answer Ruling
-ruled_on s flags masks = accepted (ruling (game_of s) (delay_of s) (table_with flags masks))
 
 -- check 21 over the two layouts
 unfoldable pub layouts_agree : Layout → TableLayout → Bool
