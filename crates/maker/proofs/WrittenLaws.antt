@@ -78,16 +78,16 @@ module _ (s : List ℕ) (l : Layout) (M R : List ℕ) (has : HasTable s l M R) w
   pub masks_inside : (n : ℕ) → n ≡ nodes_at l l.delay → n ≡ length (take n M)
   masks_inside n e = asked n e ∙ sym (length_masks (arena G d)) ∙ ap length (sym (front_masks n e))
 
-  module _ (w : ℕ) (B F : List ℕ) (room : most_words ≤ length B) (ew : w ≡ flags_count s (length B)) (ef : F ≡ flags_after s R B) where
+  module _ (w : ℕ) (B F : List ℕ) (ew : w ≡ flags_count s most_words) (ef : F ≡ flags_after s R B) (room : length B ≡ most_words) where
     all_words : initial_words G d ≤ length B
-    all_words = omega (arith, few_words G d (sheet_ranged s l has.reads))
+    all_words = omega (arith, room, few_words G d (sheet_ranged s l has.reads))
 
     flags_over : F ≡ over (flags G d) B
     flags_over = ef ∙ flags_theory s R B l has.reads all_words has.ranks
 
     words_are : w ≡ length (flags G d)
     unfolding ours
-    words_are = ew ∙ words_counted s l (length B) has.reads all_words ∙ sym (ours_fits G d).flags_length
+    words_are = (ew ∙ ap (flags_count s) (sym room)) ∙ words_counted s l (length B) has.reads all_words ∙ sym (ours_fits G d).flags_length
 
     front_flags : take w F ≡ flags G d
     front_flags = rw flags_over (over_first (flags G d) B w words_are)

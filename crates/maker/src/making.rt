@@ -52,6 +52,7 @@ fn short_buffer(l: Layout, masks: usize, ranks: usize, out: usize) -> u8
 }
 
 // The S body at delay m.
+#[tactic(auto, unfolding(crate::specs::code::Checked::header_bytes))]
 fn header(l: Layout, m: u8) -> [u8; 4]
     requires { Small l }
     ensures { result ≡ header_bytes l m }
@@ -73,34 +74,18 @@ fn write_ranks(l: Layout, m: u8, ranks: &[u16], out: &mut [u8]) -> usize
     put_rank_sheet(out, &h, &ranks[..nodes])
 }
 
-// The table sheet at the asked delay, with a lent buffer for the flags of the first words.
-fn write_flagged(
-    sheet: &[u8],
-    l: Layout,
-    masks: &[u8],
-    ranks: &[u16],
-    flags: &mut [u8],
-    out: &mut [u8],
-) -> usize
-    requires { (HasTable sheet.now l masks.now ranks.now) × (most_words ≤ length flags.old) }
-    ensures { Writes out.old 0 (table_sheet_of (game_of sheet.now) (delay_of sheet.now))
-        out.new result }
-{
-    let positions = l.positions;
-    let nodes = nodes_at(positions.size as u16, l.actions, l.delay);
-    let words = initial_flags(sheet, ranks, flags);
-    let h = header(l, l.delay);
-    put_table_sheet(out, &h, &flags[..words], &masks[..nodes])
-}
-
-// The same with a buffer of its own. Nothing else is done beside the array: a proof's search breaks off with a large one in scope.
+// The table sheet at the asked delay.
 fn write_table(sheet: &[u8], l: Layout, masks: &[u8], ranks: &[u16], out: &mut [u8]) -> usize
     requires { HasTable sheet.now l masks.now ranks.now }
     ensures { Writes out.old 0 (table_sheet_of (game_of sheet.now) (delay_of sheet.now))
         out.new result }
 {
+    let positions = l.positions;
+    let nodes = nodes_at(positions.size as u16, l.actions, l.delay);
     let mut flags = [0u8; MOST_WORDS];
-    write_flagged(sheet, l, masks, ranks, &mut flags, out)
+    let words = initial_flags(sheet, ranks, &mut flags);
+    let h = header(l, l.delay);
+    put_table_sheet(out, &h, &flags[..words], &masks[..nodes])
 }
 
 // Solving and writing, once every check has passed.

@@ -19,12 +19,6 @@ returns c = accepts _ _ _
     ((read_says _ _ c.read-reading.ensures _ c.in-Accepted.is _ _ _ _ c.short_buffer-refused.ensures).ready c.if-refused-ne0.false))
     _ _ _ _ _ _ _ _ _ c.make_read.ensures.answer c.make_read.ensures.masks c.make_read.ensures.ranks c.make_read.ensures.output
 
-pub read-reading-requires : goal.read-reading-requires
-read-reading-requires c = search reads
-
-pub refusal_number-requires : goal.refusal_number-requires
-refusal_number-requires c = search reads
-
 pub short_buffer-refused-requires : goal.short_buffer-refused-requires
 short_buffer-refused-requires c = search reads
 

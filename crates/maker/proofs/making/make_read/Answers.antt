@@ -14,9 +14,6 @@ pub returns-in-Refused : goal.returns-in-Refused
 returns-in-Refused c = no_refusal _ _ c.args.masks.now c.args.ranks.now c.args.out.now c.requires _ c.solve-solution.ensures.answer _ _ c.solve-solution.ensures.masks
     c.solve-solution.ensures.ranks _ c.in-Refused.is
 
-pub solve-solution-requires : goal.solve-solution-requires
-solve-solution-requires c = search solved
-
 pub write_table-requires : goal.write_table-requires
 write_table-requires c = search solved
 

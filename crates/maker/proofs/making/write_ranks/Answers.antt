@@ -3,14 +3,8 @@ use Rattle.sheet.proofs.SizeLaws.{nodes_small}
 use Rattle.maker.proofs.WrittenLaws.{rank_sheets, ranks_written}
 use Rattle.maker.proofs.making.write_ranks.Goals as goal
 
-pub nodes_at-nodes-requires : goal.nodes_at-nodes-requires
-nodes_at-nodes-requires c = search rank_sheets
-
 pub header-h-requires : goal.header-h-requires
 header-h-requires c = search rank_sheets
-
-pub put_rank_sheet-requires : goal.put_rank_sheet-requires
-put_rank_sheet-requires c = search rank_sheets
 
 pub returns : goal.returns
 returns c =

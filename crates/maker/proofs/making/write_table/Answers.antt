@@ -1,0 +1,21 @@
+-- `write_table` meets its contract, by the laws of WrittenLaws.antt. Assumes nothing.
+use Rattle.maker.proofs.WrittenLaws.{table_sheets}
+use Rattle.maker.proofs.making.write_table.Goals as goal
+
+pub overflow_cast-positions : goal.overflow_cast-positions
+overflow_cast-positions c = search table_sheets
+
+pub header-h-requires : goal.header-h-requires
+header-h-requires c = search table_sheets
+
+pub slice_bounds-flags-end : goal.slice_bounds-flags-end
+slice_bounds-flags-end c = search table_sheets
+
+pub slice_bounds-put_table_sheet-end-2 : goal.slice_bounds-put_table_sheet-end-2
+slice_bounds-put_table_sheet-end-2 c = search table_sheets
+
+pub slice_bounds-put_table_sheet-end-3 : goal.slice_bounds-put_table_sheet-end-3
+slice_bounds-put_table_sheet-end-3 c = search table_sheets
+
+pub returns : goal.returns
+returns c = search table_sheets
