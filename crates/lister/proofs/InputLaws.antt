@@ -7,10 +7,11 @@ use lib.ListN.{length}
 use borrow.Author.Rules.{rules}
 use borrow.Author.Tests.{lt-ltb, le-ltb}
 use Rattle.theory.specs.Answer.{refused, on_accepted}
-use Rattle.reader.specs.Reading.{read_answer, reading_means, refusal_number}
+use Rattle.reader.specs.Reading.{read_answer}
+use Rattle.std.specs.Prelude.{Result, Err}
+use Rattle.sheet.specs.Refusals.{number_of, answer_of}
 use Rattle.sheet.specs.declared.refusal.Refusal.{Refusal}
-use Rattle.reader.specs.declared.reading.Reading.{Reading}
-use Rattle.reader.specs.declared.reading.Reading.TheVariants.{Refused}
+use Rattle.reader.specs.declared.reading.Layout.{Layout}
 use Rattle.reader.proofs.Accepted.{read_accepted, read_refused}
 use Rattle.text.specs.Page.{Page, puts, Writes}
 use Rattle.text.specs.Lines.{refused_line}
@@ -49,15 +50,15 @@ module _ (s : List ℕ) (h : length s ≤ most_input) where
   solved_ranks n b e = rw (le-ltb most_input (length s) h) e
 
 -- a reading r that was refused is what solving refuses
-module _ (s : List ℕ) (r : Reading) (told : reading_means r ≡ read_answer s) (why : Refusal) (k : ℕ) (e : r ≡ Refused why) (f : k ≡ refusal_number r) where
-  refused_solved : (m n : ℕ) → solve_answer s m n ≡ refused k
+module _ (s : List ℕ) (r : Result Layout Refusal) (told : answer_of r ≡ read_answer s) (why : Refusal) (e : r ≡ Err why) where
+  refused_solved : (m n : ℕ) → solve_answer s m n ≡ refused (number_of why)
   unfolding solve_answer on_accepted
-  refused_solved m n = rw (read_refused s r told why k e f)
+  refused_solved m n = rw (read_refused s r told why e)
 
   module _ (h : length s ≤ most_input) where
-    pub refused_text : (m n : ℕ) (p : Page) {q : Page} {x : ℕ} → x ≡ k → q ≡ puts p (refused_line x) → q ≡ puts p (text_with s m n)
+    pub refused_text : (m n : ℕ) (p : Page) {q : Page} {x y : ℕ} → y ≡ number_of why → x ≡ y → q ≡ puts p (refused_line x) → q ≡ puts p (text_with s m n)
     unfolding solved_text
-    refused_text m n p g i = solved_text_lem s h m n p (rw (refused_solved m n, ← g) i)
+    refused_text m n p g j i = solved_text_lem s h m n p (rw (refused_solved m n, ← g, ← j) i)
 
     pub refused_masks : (n : ℕ) (b : List ℕ) → b ≡ masks_with s n b
     unfolding masks_left

@@ -24,9 +24,13 @@ use Rattle.reader.proofs.Legality.{legal_game}
 use Rattle.sheet.proofs.SizeLaws.{nodes_small}
 use Rattle.text.specs.Page.{Page, puts}
 use Rattle.text.specs.Lines.{refused_line}
-use Rattle.solver.specs.Solving.{Solved, solve_answer, solved_delay, masks_left, ranks_left, solution_means}
+use Rattle.solver.specs.Solving.{Solved, solve_answer, solved_delay, masks_left, ranks_left, solved_by}
 use Rattle.solver.proofs.Accepted.{solved_is}
 use Rattle.theory.specs.Buffer.{over}
+use Rattle.std.specs.Prelude.{Result, Ok, Err}
+use Rattle.sheet.specs.Refusals.{number_of, answer_by}
+use Rattle.sheet.specs.declared.refusal.Refusal.{Refusal}
+use Rattle.sheet.proofs.RefusalLaws.{by_accepted, by_refused}
 use Rattle.solver.specs.declared.solve.Solution.{Solution}
 use Rattle.solver.specs.declared.solve.Solution.TheVariants as solution
 use Rattle.lister.specs.Listing.{won_text, lost_text, game_text, solved_text}
@@ -95,18 +99,18 @@ module _ (s : List ℕ) (mb rb : List ℕ) where
   abbrev solved : Answer Solved
   solved = solve_answer s (length mb) (length rb)
 
-  pub refused_text : {n x : ℕ} (r : Solution) (p : Page) {q : Page} → r ≡ solution.Refused n → solution_means r ≡ solved → x ≡ n
-      → q ≡ puts p (refused_line x) → q ≡ puts p (solved_text s solved)
+  pub refused_text : {x y : ℕ} (why : Refusal) (r : Result Solution Refusal) (p : Page) {q : Page} → r ≡ Err why → answer_by solved_by r ≡ solved
+      → y ≡ number_of why → x ≡ y → q ≡ puts p (refused_line x) → q ≡ puts p (solved_text s solved)
   unfolding solved_text
-  refused_text r p e told f g =
-      let a : solved ≡ refused _ = sym told ∙ ap solution_means e in
-      rw (a, ← f) g
+  refused_text why r p e told f h g =
+      let a : solved ≡ refused (number_of why) = by_refused solved_by r solved told why e in
+      rw (a, ← f, ← h) g
 
-  module _ (l x : Layout) (r : Solution) (read : read_answer s ≡ accepted l) where
+  module _ (l x : Layout) (r : Result Solution Refusal) (read : read_answer s ≡ accepted l) where
     -- winning: the buffers are filled for the asked delay
-    module _ (e : r ≡ solution.Winning x) (told : solution_means r ≡ solved) where
+    module _ (y : Solution) (o : r ≡ Ok y) (e : y ≡ solution.Winning x) (told : answer_by solved_by r ≡ solved) where
       won_answer : solved ≡ accepted (record { verdict = wins; layout = x })
-      won_answer = sym told ∙ ap solution_means e
+      won_answer = by_accepted solved_by r solved told (solution.Winning x) (o ∙ ap Ok e)
 
       won_masks : (ms : List ℕ) → ms ≡ masks_left s solved mb → ms ≡ over (masks (arena (game_of s) l.delay)) mb
       unfolding masks_left solved_delay
@@ -140,9 +144,9 @@ module _ (s : List ℕ) (mb rb : List ℕ) where
             (won_same c.delay (sym (positions_are s l read)) (sym (actions_are s l read)) c.reached good (rw c.delay at firstMasks)))
 
     -- losing: they are filled for the least delay that loses
-    module _ (m : ℕ) (e : r ≡ solution.Losing m x) (told : solution_means r ≡ solved) where
+    module _ (m : ℕ) (y : Solution) (o : r ≡ Ok y) (e : y ≡ solution.Losing m x) (told : answer_by solved_by r ≡ solved) where
       lost_answer : solved ≡ accepted (record { verdict = losing m; layout = x })
-      lost_answer = sym told ∙ ap solution_means e
+      lost_answer = by_accepted solved_by r solved told (solution.Losing m x) (o ∙ ap Ok e)
 
       lost_early : m ≤ delay_of s
       lost_early = losing_within s l m read (solved_is s (length mb) (length rb) _ lost_answer).1
@@ -172,4 +176,4 @@ module _ (s : List ℕ) (mb rb : List ℕ) where
 pub part_count : (n : ℕ) (xs : List ℕ) → n ≤ length xs → n ≡ length (take n xs)
 part_count n xs h = sym (length-take-le n xs h)
 
-pub ruleset solving = (rules, refused_text, won_masks_room, won_text_lem, lost_ranks_room, part_count)
+pub ruleset solving = (rules, refused_text)

@@ -12,7 +12,7 @@ ghost use Rattle.io.specs.Counts.{IsPrefixLen};
 ghost use Rattle.lister.specs.Listing.{program_text, solved_text, text_with, masks_with, ranks_with};
 ghost use Rattle.lister.specs.code.Parts.{flags_in, starts_by, won_by, lost_by};
 
-use reader::reading::{Layout, Reading, read};
+use reader::reading::{Layout, read};
 use region::words::initial_flags;
 use sheet::limits::{MOST_NODES, MOST_WORDS};
 use sheet::size::nodes_at;
@@ -78,21 +78,20 @@ fn put_game(page: &mut Page, sheet: &[u8], l: Layout, masks: &mut [u8], ranks: &
     ensures ranks { ranks.new ≡ ranks_solved sheet.now masks.old ranks.old }
 {
     let positions = l.positions.size as u16;
-    let solution = solve(sheet, masks, ranks);
-    match solution {
-        Solution::Refused(number) => page.put_refused(usize::from(number)),
-        Solution::Winning(_) => {
+    match solve(sheet, masks, ranks) {
+        Err(refusal) => page.put_refused(usize::from(u8::from(refusal))),
+        Ok(Solution::Winning(_)) => {
             let nodes = nodes_at(positions, l.actions, l.delay);
             put_won(page, sheet, l, &masks[..nodes], ranks);
         }
-        Solution::Losing(m, _) => {
+        Ok(Solution::Losing(m, _)) => {
             let nodes = nodes_at(positions, l.actions, m);
             put_lost(page, l, m, &ranks[..nodes]);
         }
     }
 }
 
-// The text of any sheet.
+// The text of any sheet. Document 01 has the reading taken apart with let else, and its refusal handed straight on.
 fn put_sheet(page: &mut Page, sheet: &[u8], masks: &mut [u8], ranks: &mut [u16])
     ensures text { Puts page.old (text_with sheet.now (length masks.old) (length ranks.old)) page.new }
     ensures masks { masks.new ≡ masks_with sheet.now (length ranks.old) masks.old }
@@ -102,8 +101,8 @@ fn put_sheet(page: &mut Page, sheet: &[u8], masks: &mut [u8], ranks: &mut [u16])
         return page.put_refused(1);
     }
     let reading = read(sheet);
-    let Reading::Accepted(l) = reading else {
-        return page.put_refused(usize::from(reading.refusal_number()));
+    let Ok(l) = reading else {
+        return page.put_refused(usize::from(u8::from(reading.unwrap_err())));
     };
     put_game(page, sheet, l, masks, ranks);
 }

@@ -10,4 +10,3 @@ returns-in_default c = record { text = search refusing; masks = search refusing;
 
 pub returns : goal.returns
 returns c = record { text = search accepting; masks = search accepting; ranks = search accepting }
-
