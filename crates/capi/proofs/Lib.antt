@@ -1,4 +1,3 @@
 -- Laws of specs/, on which the proofs of the functions rest, and the theorems over a state's bytes.
 pub mod ExportLaws
-pub mod ControlLaws
 pub mod StateBytes

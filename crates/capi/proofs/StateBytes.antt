@@ -18,8 +18,9 @@ use Rattle.state.specs.StateBytes.{state_bytes, decode_state, slot_bytes, encode
 use Rattle.state.proofs.RoundTrip.{HasBytes, decode_encode}
 use Rattle.state.proofs.Repeat.{repeat_bytes, length_filled}
 use Rattle.state.specs.declared.state.State.{State}
-use Rattle.controller.specs.Controller.{TurnTaken, obey, next_action, act_with, open_answer, observe_answer, act_answer}
+use Rattle.controller.specs.Controller.{obey, next_action, act_with, open_answer, observe_answer, act_answer}
 use Rattle.controller.specs.Accuracy.{Response, accepts, refuses, refuses_at, Call, observe, observe_all, act, acts, Progress, after_observing, after_acting, reply, call_step, run_calls}
+use Rattle.controller.specs.declared.calls.TurnTaken.{TurnTaken}
 use Rattle.controller.proofs.CallLaws.{usable}
 use Rattle.packet.specs.Packet.{packet_reply}
 use Rattle.packet.specs.Told.{told}

@@ -4,8 +4,9 @@ use Rattle.std.specs.Prelude.{ℕ, List, [], ◌∷◌}
 use Rattle.theory.specs.Answer.{Answer}
 use Rattle.state.specs.StateBytes.{decode_state, encode_state, index_filled}
 use Rattle.state.specs.declared.state.State.{State}
-use Rattle.controller.specs.Controller.{TurnTaken, open_answer, observe_answer, act_answer}
+use Rattle.controller.specs.Controller.{open_answer, observe_answer, act_answer}
 use Rattle.controller.specs.Accuracy.{Call, observe, observe_all, act, Response, accepts, acts, refuses, refuses_at}
+use Rattle.controller.specs.declared.calls.TurnTaken.{TurnTaken}
 use Rattle.packet.specs.Packet.{packet_reply}
 use Rattle.packet.specs.Told.{told}
 use Rattle.capi.specs.Exported.{number_for, written}

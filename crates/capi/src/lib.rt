@@ -4,25 +4,19 @@
 pub mod tables; // making sheets, the masks of a table sheet, judging one, and posting a notice on one
 pub mod control; // opening, observing and acting
 
-ghost use Rattle.std.specs.Prelude.{◌≡◌, cond};
+ghost use Rattle.std.specs.Prelude.{◌≡◌};
 ghost use Rattle.reader.specs.Reading.{read_answer};
 ghost use Rattle.solver.specs.Solving.{solving, masks_solved, ranks_solved};
 ghost use Rattle.capi.specs.Exported.{number_for, header_after, places_after, read_reached, read_holding, losing_after, solved_reached};
 
-use reader::reading::{Reading, read};
+use reader::reading::read;
 use solver::solve::{Solution, solve};
 
 // What stands for the losing delay where the asked one wins (LQ_WINS).
 pub(crate) const WINS: u8 = 255;
 
-// A bool as C callers have it.
-fn number_of(b: bool) -> u8
-    ensures { result ≡ cond b 1 0 }
-{
-    if b { 1 } else { 0 }
-}
-
 #[unsafe(no_mangle)]
+#[tactic(auto, unfolding(crate::specs::Exported::by_answer))]
 pub extern "C" fn lq_read(
     sheet: &[u8],
     header: &mut [u8; 3],
@@ -36,27 +30,29 @@ pub extern "C" fn lq_read(
     ensures reached { reached.new ≡ read_reached sheet.now reached.old }
     ensures holding { holding.new ≡ read_holding sheet.now holding.old }
 {
-    let reading = read(sheet);
-    let Reading::Accepted(l) = reading else {
-        return reading.refusal_number();
-    };
-    *header = [l.start, l.actions, l.delay];
-    *places = [
-        l.header.at,
-        l.header.size,
-        l.positions.at,
-        l.positions.size,
-        l.targets.at,
-        l.targets.size,
-        l.moves.at,
-        l.moves.size,
-    ];
-    *reached = l.reached;
-    *holding = number_of(l.holding);
-    0
+    match read(sheet) {
+        Ok(l) => {
+            *header = [l.start, l.actions, l.delay];
+            *places = [
+                l.header.at,
+                l.header.size,
+                l.positions.at,
+                l.positions.size,
+                l.targets.at,
+                l.targets.size,
+                l.moves.at,
+                l.moves.size,
+            ];
+            *reached = l.reached;
+            *holding = u8::from(l.holding);
+            0
+        }
+        Err(refusal) => u8::from(refusal),
+    }
 }
 
 #[unsafe(no_mangle)]
+#[tactic(auto, unfolding(crate::specs::Exported::by_answer))]
 pub extern "C" fn lq_solve(
     sheet: &[u8],
     masks: &mut [u8],
@@ -72,18 +68,17 @@ pub extern "C" fn lq_solve(
     ensures reached { reached.new
         ≡ solved_reached sheet.now masks.old ranks.old reached.old }
 {
-    let solution = solve(sheet, masks, ranks);
-    match solution {
-        Solution::Refused(number) => number,
-        Solution::Winning(l) => {
+    match solve(sheet, masks, ranks) {
+        Ok(Solution::Winning(l)) => {
             *losing = WINS;
             *reached = l.reached;
             0
         }
-        Solution::Losing(m, l) => {
+        Ok(Solution::Losing(m, l)) => {
             *losing = m;
             *reached = l.reached;
             0
         }
+        Err(refusal) => u8::from(refusal),
     }
 }

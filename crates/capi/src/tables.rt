@@ -13,7 +13,7 @@ use judge::judging::{Judgement, judge};
 use maker::making::{Making, make};
 use notice::posting::{Posting, post};
 use sheet::form::placed;
-use table::reading::{TableReading, read};
+use table::reading::read;
 
 // What stands for each verdict of judging (LQ_SOUND, LQ_BAD_WORD, LQ_BAD_PAIR).
 const SOUND: u8 = 0;
@@ -23,6 +23,7 @@ const BAD_WORD: u8 = 1;
 const BAD_PAIR: u8 = 2;
 
 #[unsafe(no_mangle)]
+#[tactic(auto, unfolding(crate::specs::Exported::by_answer))]
 pub extern "C" fn lq_make(
     sheet: &[u8],
     masks: &mut [u8],
@@ -47,73 +48,75 @@ pub extern "C" fn lq_make(
     ensures reached { reached.new
         ≡ made_reached sheet.now masks.old ranks.old out.old reached.old }
 {
-    let making = make(sheet, masks, ranks, out);
-    match making {
-        Making::Refused(reason) => reason,
-        Making::Winning {
+    match make(sheet, masks, ranks, out) {
+        Ok(Making::Winning {
             size: length,
             reached: number,
-        } => {
+        }) => {
             *size = length;
             *losing = WINS;
             *reached = number;
             0
         }
-        Making::Losing {
+        Ok(Making::Losing {
             delay,
             size: length,
             reached: number,
-        } => {
+        }) => {
             *size = length;
             *losing = delay;
             *reached = number;
             0
         }
+        Err(refusal) => u8::from(refusal),
     }
 }
 
 #[unsafe(no_mangle)]
+#[tactic(auto, unfolding(crate::specs::Exported::by_answer))]
 pub extern "C" fn lq_masks(sheet: &[u8], place: &mut [usize; 2]) -> u8
     ensures number { result ≡ number_for (table_answer sheet.now) }
     ensures place { place.new ≡ place_after sheet.now place.old }
 {
-    let reading = read(sheet);
-    if let TableReading::Refused(reason) = reading {
-        return reason.number();
+    match read(sheet) {
+        Ok(_) => {
+            let masks = placed(sheet, 2);
+            *place = [masks.at, masks.size];
+            0
+        }
+        Err(refusal) => u8::from(refusal),
     }
-    let masks = placed(sheet, 2);
-    *place = [masks.at, masks.size];
-    0
 }
 
 #[unsafe(no_mangle)]
+#[tactic(auto, unfolding(crate::specs::Exported::by_answer))]
 pub extern "C" fn lq_judge(sheet: &[u8], table: &[u8], verdict: &mut u8, place: &mut usize) -> u8
     ensures number { result ≡ number_for (judge_answer sheet.now table.now) }
     ensures verdict { verdict.new ≡ verdict_after sheet.now table.now verdict.old }
     ensures place { place.new ≡ offender_after sheet.now table.now place.old }
 {
-    let judgement = judge(sheet, table);
-    match judgement {
-        Judgement::Refused(number) => number,
-        Judgement::Sound => {
+    match judge(sheet, table) {
+        Ok(Judgement::Sound) => {
             *verdict = SOUND;
             *place = 0;
             0
         }
-        Judgement::BadWord(v) => {
+        Ok(Judgement::BadWord(v)) => {
             *verdict = BAD_WORD;
             *place = v;
             0
         }
-        Judgement::BadNode(k) => {
+        Ok(Judgement::BadNode(k)) => {
             *verdict = BAD_PAIR;
             *place = k;
             0
         }
+        Err(refusal) => u8::from(refusal),
     }
 }
 
 #[unsafe(no_mangle)]
+#[tactic(auto, unfolding(crate::specs::Exported::by_answer))]
 pub extern "C" fn lq_post(
     sheet: &[u8],
     table: &[u8],
@@ -131,18 +134,17 @@ pub extern "C" fn lq_post(
     ensures remains { remains.new
         ≡ posted_remains sheet.now table.now notice.now out.old remains.old }
 {
-    let posted = post(sheet, table, notice, out);
-    match posted {
-        Posting::Refused(number) => number,
-        Posting::Posted(n) => {
+    match post(sheet, table, notice, out) {
+        Ok(Posting::Posted(n)) => {
             *size = n;
             *remains = 1;
             0
         }
-        Posting::Emptied(n) => {
+        Ok(Posting::Emptied(n)) => {
             *size = n;
             *remains = 0;
             0
         }
+        Err(refusal) => u8::from(refusal),
     }
 }

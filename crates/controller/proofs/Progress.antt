@@ -22,11 +22,12 @@ use Rattle.theory.proofs.Plays.{back_play, play_position}
 use Rattle.theory.proofs.Exact.{Goes, exact_goes}
 use Rattle.table.specs.TableSheet.{TableSheet}
 use Rattle.state.specs.State.{agrees, last_turn, most_held, slots, unknown, seen, slot_at, held_at, within_at, held_ok, window_ok, state_ok, observed, pushed, shifted_at, shifted, acted_state}
-use Rattle.controller.specs.Controller.{TurnTaken, observe_with, word_of, next_action, needed_known, act_with, most_observations, Heard, heard_all, refused_at, on_heard, observe_each}
+use Rattle.controller.specs.Controller.{observe_with, word_of, next_action, needed_known, act_with, most_observations, Heard, heard_all, refused_at, on_heard, observe_each}
 use Rattle.controller.specs.Sound.{Sound}
 use Rattle.controller.specs.Accuracy.{Call, observe, observe_all, act, Response, accepts, refuses, refuses_at, Reply, after_observing, after_each, after_packet, after_acting}
 use Rattle.controller.specs.Accuracy.{Progress, begun, turn_of, indices_in, after, HasAt, TrueReport, TrueReports, is_observed, to_act, right_report, right_reports, right_answer}
 use Rattle.controller.specs.declared.calls.Observation.{Observation}
+use Rattle.controller.specs.declared.calls.TurnTaken.{TurnTaken}
 use Rattle.state.specs.declared.state.Slot.{Slot}
 use Rattle.state.specs.declared.state.State.{State}
 use Rattle.controller.proofs.PlayLaws.{word_actions, action_small, further, exact_further, worked_further}

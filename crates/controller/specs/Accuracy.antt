@@ -8,10 +8,11 @@ use Rattle.theory.specs.Play.{last, index, back, actions_of, Rule}
 use Rattle.theory.specs.Exact.{MaybeAction, none, some, Run, going, play_of, exact_choice, exact, worked}
 use Rattle.table.specs.TableSheet.{TableSheet, decode}
 use Rattle.state.specs.State.{last_turn, opened}
-use Rattle.controller.specs.Controller.{TurnTaken, open_answer, observe_answer, act_answer}
+use Rattle.controller.specs.Controller.{open_answer, observe_answer, act_answer}
 use Rattle.controller.specs.Controller.{most_observations, Heard, heard_all, refused_at, observe_each, packet_answer}
 use Rattle.state.specs.declared.state.State.{State}
 use Rattle.controller.specs.declared.calls.Observation.{Observation}
+use Rattle.controller.specs.declared.calls.TurnTaken.{TurnTaken}
 
 -- "Its calls are hearing and giving": observe a position at an index, and act; "a packet being one call of its lists"
 pub data Call : Type 0 where

@@ -9,6 +9,7 @@ use Rattle.table.specs.TableSheet.{TableSheet, table_answer}
 use Rattle.state.specs.State.{last_turn, opened, slot_at, agrees, state_ok, observed, acted_state}
 use Rattle.state.specs.declared.state.State.{State}
 use Rattle.controller.specs.declared.calls.Observation.{Observation}
+use Rattle.controller.specs.declared.calls.TurnTaken.{TurnTaken}
 
 -- "20; 16: position over the highest; 17: index below 2i - d (never below 0); 18: index over 2i; 19: that index heard with
 -- another position"
@@ -23,11 +24,6 @@ observe_with x s k p =
 unfoldable pub word_of : ℕ → List ℕ → ℕ
 word_of A [] = 0
 word_of A (a ∷ older) = word_of A older * A + a
-
--- an action, and the state after it
-pub record TurnTaken : Type 0 where
-  pub action : ℕ
-  pub state : State
 
 -- "14: the mask of that report's pair is 0"
 unfoldable pub obey : TableSheet → State → MaybeAction → Answer TurnTaken

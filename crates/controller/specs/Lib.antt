@@ -2,5 +2,4 @@
 pub mod Controller
 pub mod Accuracy
 pub mod Sound
-pub mod Meaning
 pub mod code

@@ -1,22 +1,21 @@
 // Opening, observing and acting, over the bytes of a table sheet, which each reads on every call, and of a state.
 ghost use Rattle.std.specs.Prelude.{◌≡◌, [], ◌≤◌, ◌<◌};
-ghost use Rattle.table.specs.TableSheet.{says, table_at};
 ghost use Rattle.sheet.specs.Limits.{most_delay};
+ghost use Rattle.sheet.specs.Refusals.{answer_of};
+ghost use Rattle.table.specs.TableSheet.{says, table_at};
 ghost use Rattle.state.specs.State.{last_turn, acted_state};
 ghost use Rattle.state.specs.StateBytes.{decode_state};
-ghost use Rattle.controller.specs.Controller.{observe_with, act_with};
-ghost use Rattle.controller.specs.Accuracy.{observe, act, after_observing, after_acting, reply};
-ghost use Rattle.controller.specs.Meaning.{step_means, open_reply};
+ghost use Rattle.controller.specs.Controller.{observe_with, act_with, open_answer, observe_answer, act_answer};
 ghost use Rattle.controller.specs.code.Usable.{Usable};
-ghost use Rattle.controller.specs.code.Ages.{age_with, aged_means};
+ghost use Rattle.controller.specs.code.Ages.{age_with};
 
 use crate::turn::{action_of, least_flagged, lowest, mask_at};
-use sheet::form::{part, wide};
+use sheet::form::part;
 use sheet::refusal::Refusal;
-use state::bytes::{STATE_BYTES, decode};
+use state::bytes::STATE_BYTES;
 use state::checks::state_ok;
 use state::state::{LAST_TURN, Slot, State, pushed, shifted};
-use table::reading::{TableLayout, TableReading, read};
+use table::reading::{TableLayout, read};
 
 // The record of a report: the position at an index.
 #[repr(C)]
@@ -26,168 +25,116 @@ pub struct Observation {
     pub position: u8,
 }
 
-// What a call answers.
+// What acting gives: the action, and the state after it.
 #[derive(Clone, Copy)]
-pub enum Decision {
-    Accepted,
-    Acted(u8),
-    Refused(Refusal),
-}
-
-// The answer, and the state after the call: the one before it where the answer is a refusal.
-#[derive(Clone, Copy)]
-pub struct Step {
-    pub decision: Decision,
+pub struct TurnTaken {
+    pub action: u8,
     pub state: State,
 }
 
-fn refuse(s: State, reason: Refusal) -> Step
-    ensures { result ≡ record { decision = Decision.Refused reason; state = s } }
-{
-    Step {
-        decision: Decision::Refused(reason),
-        state: s,
-    }
-}
-
-fn accept(s: State) -> Step
-    ensures { result ≡ record { decision = Decision.Accepted; state = s } }
-{
-    Step {
-        decision: Decision::Accepted,
-        state: s,
-    }
-}
-
-fn take_turn(delay: u8, s: State, action: u8) -> Step
+fn take_turn(delay: u8, s: State, action: u8) -> TurnTaken
     requires { s.turn < last_turn }
-    ensures { result ≡ record { decision = Decision.Acted action; state = acted_state delay s action } }
+    ensures { result ≡ record { action = action; state = acted_state delay s action } }
 {
-    let last = s.last;
-    let window = s.window;
-    let newest = pushed(action, last);
-    let later = shifted(delay, window);
-    let next = State {
+    let state = State {
         turn: s.turn + 1,
-        last: newest,
-        window: later,
+        last: pushed(action, s.last),
+        window: shifted(delay, s.window),
     };
-    Step {
-        decision: Decision::Acted(action),
-        state: next,
-    }
+    TurnTaken { action, state }
 }
 
-// Where a report goes: its slot's age, or why it goes nowhere.
-#[derive(Clone, Copy)]
-pub enum Aged {
-    At(usize),
-    Refused(Refusal),
-}
-
-// Checks 16 to 18 of a report under a sheet's highest position and delay, newest being the newest index that can be reported.
-pub fn age_of(highest: u8, delay: u8, newest: usize, index: usize, position: u8) -> Aged
-    ensures { aged_means result ≡ age_with highest delay newest index position }
+// Where a report goes: its slot's age, by checks 16 to 18. newest is the newest index that can be reported.
+#[tactic(auto, unfolding(crate::specs::code::Ages::age_with, theory::specs::Answer::check))]
+pub fn age_of(l: TableLayout, newest: usize, observation: Observation) -> Result<usize, Refusal>
+    ensures { answer_of result ≡ age_with l.highest l.delay newest observation.index observation.position }
 {
-    if highest < position {
-        return Aged::Refused(Refusal::UnknownPosition);
+    if l.highest < observation.position {
+        return Err(Refusal::UnknownPosition);
     }
-    if newest < index {
-        return Aged::Refused(Refusal::TooNew);
+    if newest < observation.index {
+        return Err(Refusal::TooNew);
     }
-    let age = newest - index;
-    if wide(delay) < age {
-        return Aged::Refused(Refusal::TooOld);
+    let age = newest - observation.index;
+    if usize::from(l.delay) < age {
+        return Err(Refusal::TooOld);
     }
-    Aged::At(age)
+    Ok(age)
 }
 
 // Observing, after 10 to 12.
-fn observe_with(l: TableLayout, s: State, index: usize, position: u8) -> Step
+fn observe_with(l: TableLayout, s: State, observation: Observation) -> Result<State, Refusal>
     requires { l.delay ≤ most_delay }
-    ensures { step_means result ≡ after_observing s (observe_with (says l [] []) s index position) }
+    ensures { answer_of result ≡ observe_with (says l [] []) s observation.index observation.position }
 {
     if !state_ok(l, s) {
-        return refuse(s, Refusal::State);
+        return Err(Refusal::State);
     }
-    let aged = age_of(l.highest, l.delay, 2 * s.turn, index, position);
-    match aged {
-        Aged::Refused(reason) => refuse(s, reason),
-        Aged::At(age) => {
-            if !s.window[age].agrees(position) {
-                return refuse(s, Refusal::Contradiction);
-            }
-            let mut next = s;
-            next.window[age] = Slot {
-                known: true,
-                position,
-            };
-            accept(next)
-        }
+    let age = age_of(l, 2 * s.turn, observation)?;
+    if !s.window[age].agrees(observation.position) {
+        return Err(Refusal::Contradiction);
     }
+    let mut next = s;
+    next.window[age] = Slot {
+        known: true,
+        position: observation.position,
+    };
+    Ok(next)
 }
 
 // Acting, after 10 to 12.
-fn act_with(l: TableLayout, sheet: &[u8], s: State) -> Step
+fn act_with(l: TableLayout, sheet: &[u8], s: State) -> Result<TurnTaken, Refusal>
     requires { Usable (table_at sheet.now l) }
-    ensures { step_means result ≡ after_acting s (act_with (table_at sheet.now l) s) }
+    ensures { answer_of result ≡ act_with (table_at sheet.now l) s }
 {
     if !state_ok(l, s) {
-        return refuse(s, Refusal::State);
+        return Err(Refusal::State);
     }
-    let turn = s.turn;
-    if turn == LAST_TURN {
-        return refuse(s, Refusal::LastTurn);
+    if s.turn == LAST_TURN {
+        return Err(Refusal::LastTurn);
     }
-    let delay = wide(l.delay);
-    if 2 * turn < delay {
-        let flags = l.flags;
-        let word = least_flagged(part(sheet, flags));
-        return take_turn(
-            l.delay,
-            s,
-            action_of(l.actions, (delay + 1) / 2, word, turn),
-        );
+    let delay = usize::from(l.delay);
+    if 2 * s.turn < delay {
+        let word = least_flagged(part(sheet, l.flags));
+        let action = action_of(l.actions, delay.div_ceil(2), word, s.turn);
+        return Ok(take_turn(l.delay, s, action));
     }
-    if !s.window[delay].known {
-        return refuse(s, Refusal::Unobserved);
-    }
-    let last = s.last;
-    let masks = l.masks;
-    let mask = mask_at(l, part(sheet, masks), s.window[delay].position, last);
+    let position = s.window[delay].observed().ok_or(Refusal::Unobserved)?;
+    let mask = mask_at(l, part(sheet, l.masks), position, s.last);
     if mask == 0 {
-        return refuse(s, Refusal::NoAction);
+        return Err(Refusal::NoAction);
     }
-    take_turn(l.delay, s, lowest(mask))
+    Ok(take_turn(l.delay, s, lowest(mask)))
 }
 
-// Opening. Beside a refusal stands the opened state too.
-pub fn opening(sheet: &[u8]) -> Step
-    ensures { step_means result ≡ open_reply sheet.now }
+// Opening.
+#[tactic(auto, unfolding(crate::specs::Controller::open_answer, theory::specs::Answer::on_accepted))]
+pub fn opening(sheet: &[u8]) -> Result<State, Refusal>
+    ensures { answer_of result ≡ open_answer sheet.now }
 {
-    let s = State::opened();
-    match read(sheet) {
-        TableReading::Accepted(_) => accept(s),
-        TableReading::Refused(refusal) => refuse(s, refusal),
-    }
+    read(sheet)?;
+    Ok(State::opened())
 }
 
 // "Hearing a report": a position at an index. The state is decoded after the sheet is read: before it, it would be kept on the stack meanwhile.
-pub fn observe(sheet: &[u8], state: &[u8; STATE_BYTES], index: usize, position: u8) -> Step
-    ensures { step_means result ≡ reply sheet.now (decode_state state.now) (observe index position) }
+#[tactic(auto, unfolding(crate::specs::Controller::observe_answer, theory::specs::Answer::on_accepted))]
+pub fn observe(
+    sheet: &[u8],
+    state: &[u8; STATE_BYTES],
+    observation: Observation,
+) -> Result<State, Refusal>
+    ensures { answer_of result
+        ≡ observe_answer sheet.now (decode_state state.now) observation.index observation.position }
 {
-    match read(sheet) {
-        TableReading::Accepted(l) => observe_with(l, decode(state), index, position),
-        TableReading::Refused(reason) => refuse(decode(state), reason),
-    }
+    let l = read(sheet)?;
+    observe_with(l, State::from(*state), observation)
 }
 
 // "Giving the command of turn i", the state's.
-pub fn act(sheet: &[u8], state: &[u8; STATE_BYTES]) -> Step
-    ensures { step_means result ≡ reply sheet.now (decode_state state.now) act }
+#[tactic(auto, unfolding(crate::specs::Controller::act_answer, theory::specs::Answer::on_accepted))]
+pub fn act(sheet: &[u8], state: &[u8; STATE_BYTES]) -> Result<TurnTaken, Refusal>
+    ensures { answer_of result ≡ act_answer sheet.now (decode_state state.now) }
 {
-    match read(sheet) {
-        TableReading::Accepted(l) => act_with(l, sheet, decode(state)),
-        TableReading::Refused(reason) => refuse(decode(state), reason),
-    }
+    let l = read(sheet)?;
+    act_with(l, sheet, State::from(*state))
 }

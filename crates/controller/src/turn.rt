@@ -7,7 +7,7 @@ ghost use Rattle.sheet.specs.Limits.{most_delay};
 ghost use Rattle.state.specs.State.{most_held};
 ghost use Rattle.controller.specs.Controller.{word_of};
 
-use sheet::form::{byte, wide};
+use sheet::form::byte;
 use state::state::HELD;
 use table::reading::TableLayout;
 
@@ -15,14 +15,9 @@ use table::reading::TableLayout;
 pub(crate) fn least_flagged(w: &[u8]) -> usize
     ensures { result ≡ least_flagged (record { flags = w.now; masks = [] }) }
 {
-    let mut v: usize = 0;
-    while v + 1 < w.len() {
-        if w[v] != 0 {
-            return v;
-        }
-        v += 1;
-    }
-    v
+    w.iter()
+        .position(|&flag| flag != 0)
+        .unwrap_or(w.len().saturating_sub(1))
 }
 
 // Action i of a word of n actions, the oldest being 0.
@@ -33,12 +28,10 @@ pub(crate) fn action_of(actions: u8, n: usize, word: usize, i: usize) -> u8
     if n == 0 {
         return 0;
     }
-    let base = wide(actions);
+    let base = usize::from(actions);
     let mut left = word;
-    let mut younger = n - 1;
-    while i < younger {
+    for _younger in i..n - 1 {
         left = left / base;
-        younger -= 1;
     }
     (left % base) as u8
 }
@@ -48,12 +41,10 @@ fn node_of(actions: u8, position: u8, last: [u8; HELD], n: usize) -> usize
     requires { n ≤ most_held }
     ensures { result ≡ position * actions ^ n + word_of actions (take n last) }
 {
-    let base = wide(actions);
-    let mut node = wide(position);
-    let mut k = n;
-    while 0 < k {
-        k -= 1;
-        node = node * base + wide(last[k]);
+    let base = usize::from(actions);
+    let mut node = usize::from(position);
+    for k in (0..n).rev() {
+        node = node * base + usize::from(last[k]);
     }
     node
 }
@@ -64,7 +55,10 @@ pub(crate) fn mask_at(l: TableLayout, masks: &[u8], position: u8, last: [u8; HEL
     ensures { result
         ≡ get_or masks.now (position * l.actions ^ (l.delay / 2) + word_of l.actions (take (l.delay / 2) last)) 0 }
 {
-    byte(masks, node_of(l.actions, position, last, wide(l.delay) / 2))
+    byte(
+        masks,
+        node_of(l.actions, position, last, usize::from(l.delay) / 2),
+    )
 }
 
 // The lowest action in a mask.

@@ -2,4 +2,3 @@
 pub mod PacketBytes
 pub mod Rearranged
 pub mod WalkLaws
-pub mod ToldLaws

@@ -1,13 +1,11 @@
 -- Document 02's W-204 over bytes: what hearing a packet answers, and the state's bytes after it. t is the table sheet, b the state's bytes,
 -- os the packet's records. Assumes nothing.
-use Rattle.std.specs.Prelude.{ℕ, List, [], ◌∷◌}
+use Rattle.std.specs.Prelude.{ℕ, List, [], ◌∷◌, Option, None, Some, Result, Ok, Err}
 use Rattle.sheet.specs.Refusals.{number_of}
 use Rattle.state.specs.StateBytes.{decode_state, index_filled}
 use Rattle.controller.specs.Accuracy.{Response, accepts, acts, refuses, refuses_at, observe_all, reply}
 use Rattle.controller.specs.declared.calls.Observation.{Observation}
-use Rattle.packet.specs.declared.hearing.Hearing.{Hearing}
-use Rattle.packet.specs.declared.hearing.Hearing.TheVariants.{Accepted, Refused, RefusedAt}
-use Rattle.packet.specs.declared.hearing.Heard.{Heard}
+use Rattle.packet.specs.declared.hearing.PacketRefusal.{PacketRefusal}
 
 -- the bytes once these were observed singly, first to last
 unfoldable pub all_filled : List ℕ → List Observation → List ℕ
@@ -32,11 +30,14 @@ packet_reply t b os =
       bytes = bytes_by (reply t (decode_state b) (observe_all os)).response (all_filled b os) b;
     }
 
--- document 02's number and place for every case of the code's answer
-abbrev pub hearing_means : Hearing → Response
-hearing_means Accepted = accepts
-hearing_means (Refused r) = refuses (number_of r)
-hearing_means (RefusedAt r place) = refuses_at (number_of r) place
+-- document 02's number and place for every case of the code's answer, b being the bytes before the packet
+abbrev pub refused_at_place : Option ℕ → ℕ → Response
+refused_at_place None n = refuses n
+refused_at_place (Some place) n = refuses_at n place
 
-abbrev pub heard_means : Heard → PacketReply
-heard_means r = record { response = hearing_means r.hearing; bytes = r.state }
+abbrev pub refused_by : PacketRefusal → Response
+refused_by r = refused_at_place r.place (number_of r.refusal)
+
+abbrev pub heard_means : List ℕ → Result (List ℕ) PacketRefusal → PacketReply
+heard_means b (Ok after) = record { response = accepts; bytes = after }
+heard_means b (Err r) = record { response = refused_by r; bytes = b }

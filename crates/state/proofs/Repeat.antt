@@ -10,12 +10,12 @@ use lib.Dec.{leb}
 use lib.ListN.{length, get_or, set, length-set}
 use lib.Seq.{get_or-set_same, get_or-set_other, set-get_or}
 use Rattle.theory.specs.Fold.{either}
-use Rattle.theory.proofs.Fold.{bool, below?, either_right, get_d_tabulate, tabulate_set}
+use Rattle.theory.proofs.Fold.{bool, below?, either_right, tabulate_set}
 use Rattle.state.specs.State.{slots, unknown, seen, slot_at, agrees, observed}
 use Rattle.state.specs.StateBytes.{state_bytes, known_at, position_at, turn_from, slot_from, slot_in, window_in, decode_state, slot_filled}
 use Rattle.state.specs.declared.state.Slot.{Slot}
 use Rattle.state.specs.declared.state.State.{State}
-use Rattle.state.proofs.ByteLaws.{filled_none}
+use Rattle.state.proofs.ByteLaws.{slot_decoded, filled_none}
 
 -- a slot that is known and agrees with p says p
 known_says : (w : Slot) (p : ℕ) → w.known ≡ true → agrees w p ≡ true → w ≡ seen p
@@ -72,10 +72,6 @@ module _ (b : List ℕ) (k p : ℕ) where
           last = kept 4 (omega arith) i ∷ kept 5 (omega arith) i ∷ kept 6 (omega arith) i ∷ [];
           window = window i;
         }
-
-slot_decoded : (b : List ℕ) (k : ℕ) → k < slots → slot_at (decode_state b) k ≡ slot_in b k
-unfolding slot_at decode_state window_in
-slot_decoded b k h = get_d_tabulate (slot_in b) slots k unknown h
 
 pub filled_left : (b : List ℕ) (k p : ℕ) → (slot_in b k).known ≡ true → slot_filled b k p ≡ b
 unfolding slot_filled

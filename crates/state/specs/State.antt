@@ -1,5 +1,5 @@
 -- The controller's state: actions and observations by age, the newest first. Assumes nothing.
-use Rattle.std.specs.Prelude.{ℕ, suc, ◌-◌, ◌*◌, ◌/◌, min, Bool, true, false, not, cond, List, [], ◌∷◌, eqb, leb, ltb, get_or, set, replicate}
+use Rattle.std.specs.Prelude.{ℕ, suc, ◌-◌, ◌*◌, ◌/◌, min, Bool, true, false, not, cond, List, [], ◌∷◌, eqb, leb, ltb, get_or, set, replicate, Option, None, Some}
 use Rattle.theory.specs.Fold.{both, either, all_below, tabulate}
 use Rattle.table.specs.TableSheet.{TableSheet}
 use Rattle.state.specs.declared.state.Slot.{Slot}
@@ -23,6 +23,10 @@ unknown = record { known = false; position = 0 }
 
 abbrev pub seen : ℕ → Slot
 seen p = record { known = true; position = p }
+
+-- the position in a slot, if one was observed
+unfoldable pub observed_in : Slot → Option ℕ
+observed_in w = cond w.known (Some w.position) None
 
 -- "turn 0, no command given, no report heard"
 abbrev pub opened : State

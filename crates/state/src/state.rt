@@ -1,8 +1,8 @@
 // The controller's state, by age: the newest comes first, so nothing in it depends on the turn's number.
-ghost use Rattle.std.specs.Prelude.{◌≡◌, get_or};
-ghost use Rattle.state.specs.State.{unknown, opened, agrees, pushed, shifted_at, shifted};
+ghost use Rattle.std.specs.Prelude.{◌≡◌, ◌<◌};
+ghost use Rattle.state.specs.State.{slots, unknown, observed_in, opened, agrees, pushed, shifted_at, shifted};
 
-use sheet::form::wide;
+use std::array;
 
 // The last turn: no action is taken at it.
 pub const LAST_TURN: usize = 1000000;
@@ -12,7 +12,8 @@ pub const HELD: usize = 3;
 
 pub const SLOTS: usize = 7;
 
-// An observation: is the position of this index known, and which one it is.
+// An observation: is the position of this index known, and which one it is. It isn't an Option, as C callers keep it in two bytes: acting
+// hands both on, and so the position byte of a slot that is not known.
 #[derive(Clone, Copy)]
 pub struct Slot {
     pub known: bool,
@@ -30,14 +31,20 @@ impl Slot {
         }
     }
 
+    // The position that was observed, if one was.
+    #[tactic(auto, unfolding(crate::specs::State::observed_in))]
+    pub fn observed(self) -> Option<u8>
+        ensures { result ≡ observed_in self }
+    {
+        self.known.then_some(self.position)
+    }
+
     // Does the slot say nothing else than this position?
+    #[tactic(auto, unfolding(crate::specs::State::agrees, crate::specs::State::observed_in, theory::specs::Fold::either))]
     pub fn agrees(self, position: u8) -> bool
         ensures { result ≡ agrees self position }
     {
-        if self.known {
-            return self.position == position;
-        }
-        true
+        self.observed().is_none_or(|observed| observed == position)
     }
 }
 
@@ -54,27 +61,15 @@ impl State {
     pub fn opened() -> State
         ensures { result ≡ opened }
     {
-        let none = Slot::unknown();
-        let window = [none; SLOTS];
-        let last = [0u8; HELD];
         State {
             turn: 0,
-            last,
-            window,
+            last: [0; HELD],
+            window: [Slot::unknown(); SLOTS],
         }
     }
 }
 
-// The slot of age k; unknown where there is none.
-fn slot_in(window: [Slot; SLOTS], k: usize) -> Slot
-    ensures { result ≡ get_or window k unknown }
-{
-    if k < SLOTS {
-        return window[k];
-    }
-    Slot::unknown()
-}
-
+#[tactic(auto, unfolding(crate::specs::State::pushed))]
 pub fn pushed(action: u8, last: [u8; HELD]) -> [u8; HELD]
     ensures { result ≡ pushed action last }
 {
@@ -82,26 +77,20 @@ pub fn pushed(action: u8, last: [u8; HELD]) -> [u8; HELD]
 }
 
 // Slot k a turn later: it was two younger, and is dropped below the new window.
-fn shifted_at(delay: u8, window: [Slot; SLOTS], k: u8) -> Slot
+#[tactic(auto, unfolding(crate::specs::State::shifted_at, theory::specs::Fold::both))]
+fn shifted_at(delay: u8, window: [Slot; SLOTS], k: usize) -> Slot
+    requires { k < slots }
     ensures { result ≡ shifted_at delay window k }
 {
-    if k < 2 {
-        return Slot::unknown();
+    if 2 <= k && k <= usize::from(delay) {
+        window[k - 2]
+    } else {
+        Slot::unknown()
     }
-    if delay < k {
-        return Slot::unknown();
-    }
-    slot_in(window, wide(k) - 2)
 }
 
 pub fn shifted(delay: u8, window: [Slot; SLOTS]) -> [Slot; SLOTS]
     ensures { result ≡ shifted delay window }
 {
-    let none = Slot::unknown();
-    let a = shifted_at(delay, window, 2);
-    let b = shifted_at(delay, window, 3);
-    let c = shifted_at(delay, window, 4);
-    let d = shifted_at(delay, window, 5);
-    let e = shifted_at(delay, window, 6);
-    [none, none, a, b, c, d, e]
+    array::from_fn(|k| shifted_at(delay, window, k))
 }

@@ -1,27 +1,10 @@
--- `lq_observe` meets its contract, by the laws of ControlLaws.antt. Assumes nothing.
-use Rattle.capi.proofs.ControlLaws.{observes}
+-- `lq_observe` meets its contract: an accepted observation's index is not over the newest. Assumes nothing.
+use Rattle.std.proofs.Common.{arith, sym}
+use Rattle.state.specs.StateBytes.{decode_state}
+use Rattle.controller.proofs.Answers.{observe_accepted}
 use Rattle.capi.proofs.control.lq_observe.Goals as goal
 
-pub observe-step-requires : goal.observe-step-requires
-observe-step-requires c = search observes
-
-pub number-requires : goal.number-requires
-number-requires c = search observes
-
-pub fill_slot-requires : goal.fill_slot-requires
-fill_slot-requires c = search observes
-
-pub returns-in-Refused : goal.returns-in-Refused
-returns-in-Refused c = search observes
-
-pub returns-in-Accepted : goal.returns-in-Accepted
-returns-in-Accepted c = search observes
-
-pub returns-in-Acted : goal.returns-in-Acted
-returns-in-Acted c = search observes
-
-pub overflow_mul-after : goal.overflow_mul-after
-overflow_mul-after c = search observes
-
-pub overflow_sub-after : goal.overflow_sub-after
-overflow_sub-after c = search observes
+pub overflow_sub-newest : goal.overflow_sub-newest
+overflow_sub-newest c =
+    let o = observe_accepted c.args.sheet.now (decode_state c.args.state.now) c.args.index c.args.position c.in-Ok.field-0 (sym c.in-Ok.ensures) in
+    omega (arith, o.2.not_new, c.newest.ensures)

@@ -1,24 +1,13 @@
 -- `observe` meets its contract, by the laws of CallLaws.antt. Assumes nothing.
-use Rattle.controller.proofs.CallLaws.{call_laws}
+use Rattle.std.proofs.Common.{◌∙◌}
+use Rattle.controller.proofs.CallLaws.{read_short, observes_read}
 use Rattle.controller.proofs.calls.observe.Goals as goal
 
-pub read-requires : goal.read-requires
-read-requires c = search call_laws
-
-pub decode-requires : goal.decode-requires
-decode-requires c = search call_laws
-
 pub observe_with-requires : goal.observe_with-requires
-observe_with-requires c = search call_laws
+observe_with-requires c = read_short c.args.sheet.now c.read.result c.read.ensures c.in_ok-l.l c.in_ok-l.was
 
-pub decode-requires-in-Refused : goal.decode-requires-in-Refused
-decode-requires-in-Refused c = search call_laws
-
-pub refuse-requires : goal.refuse-requires
-refuse-requires c = search call_laws
-
-pub returns-in-Accepted : goal.returns-in-Accepted
-returns-in-Accepted c = search call_laws
-
-pub returns-in-Refused : goal.returns-in-Refused
-returns-in-Refused c = search call_laws
+pub returns : goal.returns
+returns c =
+    c.observe_with.ensures
+    ∙ observes_read c.args.sheet.now c.read.result c.read.ensures c.in_ok-l.l c.in_ok-l.was c.from.result _ c.args.observation.index c.args.observation.position
+    c.from.ensures

@@ -1,27 +1,10 @@
--- `window_in` meets its contract, by the laws of ByteLaws.antt. Assumes nothing.
-use Rattle.state.proofs.ByteLaws.{wholes}
+-- `window_in` meets its contract: its array is made slot by slot. Assumes nothing.
+use Rattle.std.proofs.Common.{rules}
+use Rattle.state.specs.State.{slots, unknown}
+use Rattle.state.specs.StateBytes.{slot_in, window_in}
+use Rattle.state.proofs.Arrays.{made_is}
 use Rattle.state.proofs.bytes.window_in.Goals as goal
 
-pub slot_from-s0-requires : goal.slot_from-s0-requires
-slot_from-s0-requires c = search wholes
-
-pub slot_from-s1-requires : goal.slot_from-s1-requires
-slot_from-s1-requires c = search wholes
-
-pub slot_from-s2-requires : goal.slot_from-s2-requires
-slot_from-s2-requires c = search wholes
-
-pub slot_from-s3-requires : goal.slot_from-s3-requires
-slot_from-s3-requires c = search wholes
-
-pub slot_from-s4-requires : goal.slot_from-s4-requires
-slot_from-s4-requires c = search wholes
-
-pub slot_from-s5-requires : goal.slot_from-s5-requires
-slot_from-s5-requires c = search wholes
-
-pub slot_from-s6-requires : goal.slot_from-s6-requires
-slot_from-s6-requires c = search wholes
-
 pub returns : goal.returns
-returns c = search wholes
+unfolding window_in
+returns c = made_is _ (slot_in c.args.b.now) _ _ unknown slots (λ i y q l k. search rules) c.from_fn.ensures.items

@@ -1,18 +1,12 @@
--- `held_ok` meets its contract: at the head of its loop every action before k passed. Assumes nothing.
-use Rattle.state.proofs.StateLaws.{check_laws}
+-- `held_ok` meets its contract, by the law of a test of every index. Assumes nothing.
+use Rattle.std.proofs.Common.{rules, arith, ◌∙◌, refl}
+use Rattle.std.proofs.lemmas.Iterator.{YieldsList-from_range}
+use Rattle.std.proofs.lemmas.Iterator.Search.{all_from_yields_List}
+use Rattle.state.specs.State.{held_at}
+use Rattle.state.proofs.Arrays.{all_range}
 use Rattle.state.proofs.checks.held_ok.Goals as goal
 
-pub loop-k-init : goal.loop-k-init
-loop-k-init c = search check_laws
-
-pub held_at-requires : goal.held_at-requires
-held_at-requires c = search check_laws
-
-pub returns-then-not-held_at : goal.returns-then-not-held_at
-returns-then-not-held_at c = search check_laws
-
-pub loop-k-preserved : goal.loop-k-preserved
-loop-k-preserved c = search check_laws
-
 pub returns : goal.returns
-returns c = search check_laws
+returns c =
+    all_from_yields_List (held_at c.args.actions c.args.last) _ _ _ c.all.ensures.ran (YieldsList-from_range 0 c.args.n c.args.n refl (omega arith)) (λ x b q k. search rules)
+    ∙ all_range (held_at c.args.actions c.args.last) c.args.n

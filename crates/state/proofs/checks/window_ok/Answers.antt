@@ -1,18 +1,12 @@
--- `window_ok` meets its contract: at the head of its loop every slot before k passed. Assumes nothing.
-use Rattle.state.proofs.StateLaws.{check_laws}
+-- `window_ok` meets its contract, by the law of a test of every index. Assumes nothing.
+use Rattle.std.proofs.Common.{rules, arith, ◌∙◌, refl}
+use Rattle.std.proofs.lemmas.Iterator.{YieldsList-from_range}
+use Rattle.std.proofs.lemmas.Iterator.Search.{all_from_yields_List}
+use Rattle.state.specs.State.{within_at}
+use Rattle.state.proofs.Arrays.{all_range}
 use Rattle.state.proofs.checks.window_ok.Goals as goal
 
-pub loop-k-init : goal.loop-k-init
-loop-k-init c = search check_laws
-
-pub within_at-requires : goal.within_at-requires
-within_at-requires c = search check_laws
-
-pub returns-then-not-within_at : goal.returns-then-not-within_at
-returns-then-not-within_at c = search check_laws
-
-pub loop-k-preserved : goal.loop-k-preserved
-loop-k-preserved c = search check_laws
-
 pub returns : goal.returns
-returns c = search check_laws
+returns c =
+    all_from_yields_List (within_at c.args.highest c.args.window) _ _ _ c.all.ensures.ran (YieldsList-from_range 0 c.args.n c.args.n refl (omega arith)) (λ x b q k. search rules)
+    ∙ all_range (within_at c.args.highest c.args.window) c.args.n
