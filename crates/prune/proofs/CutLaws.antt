@@ -147,13 +147,18 @@ module _ (E : Arena) where
     cut_cut size h =
         store_cut E masks k _ size h (part_sub E (fallen_in masks) k (get_or masks k 0)) (part_has E (fallen_in masks) k (get_or masks k 0))
 
-    -- a node without a mask has nothing to lose
+    -- a node whose mask may stand as it is keeps it
+    pub cut_whole : part_now E masks k ≡ get_or masks k 0 → masks ≡ cut_at E masks k
+    unfolding cut_at
+    cut_whole q = sym (ap (set masks k) q ∙ set-get_or masks k 0)
+
+    -- and one without a mask has nothing to lose
     pub cut_gone : get_or masks k 0 ≡ 0 → masks ≡ cut_at E masks k
-    unfolding cut_at part_now
+    unfolding part_now
     cut_gone z =
         let l = part_le E (fallen_in masks) k (get_or masks k 0) in
         let q : part_of E (fallen_in masks) k (get_or masks k 0) ≡ get_or masks k 0 = omega arith in
-        sym (ap (set masks k) q ∙ set-get_or masks k 0)
+        cut_whole q
 
 -- marks
 
@@ -191,10 +196,9 @@ changed_suc E masks k = refl
 pub swept_next : (E : Arena) (masks : List ℕ) (k : ℕ) {w v : List ℕ} → w ≡ swept_to E masks k → v ≡ cut_at E w k → v ≡ swept_to E masks (k + 1)
 swept_next E masks k e q = q ∙ ap (λ (w : List ℕ). cut_at E w k) e ∙ sym (swept_suc E masks k) ∙ ap (swept_to E masks) (sym (add-one k))
 
-pub changed_next : (E : Arena) (masks : List ℕ) (k : ℕ) {w v : List ℕ} {b r : Bool} {before after : ℕ} → w ≡ swept_to E masks k → v ≡ cut_at E w k
-    → b ≡ changed_to E masks k → before ≡ get_or w k 0 → after ≡ get_or v k 0 → r ≡ either b (not (eqb after before)) → r ≡ changed_to E masks (k + 1)
-changed_next E masks k {w} {v} e q c i j r =
-    r ∙ rw (c, i, j, q, e, add-one k) (sym (changed_suc E masks k))
+pub changed_next : (E : Arena) (masks : List ℕ) (k : ℕ) {w v : List ℕ} {b r : Bool} → w ≡ swept_to E masks k → v ≡ cut_at E w k
+    → b ≡ changed_to E masks k → r ≡ either b (not (eqb (get_or v k 0) (get_or w k 0))) → r ≡ changed_to E masks (k + 1)
+changed_next E masks k {w} {v} e q c r = r ∙ rw (c, q, e, add-one k) (sym (changed_suc E masks k))
 
 module _ (E : Arena) (masks : List ℕ) (size : length masks ≡ E.nodes) where
   pub swept_cut : (k : ℕ) → k ≤ E.nodes → Cut E masks (swept_to E masks k)

@@ -1,73 +1,55 @@
 // Bits go out of a node's mask where the judging rule does not allow them. A node whose mask is gone is marked as fallen from then on.
-ghost use Rattle.std.specs.Prelude.{◌≡◌, ◌≤◌, ◌<◌, length, set};
-ghost use Rattle.sheet.specs.Limits.{most_nodes};
-ghost use Rattle.walk.specs.code.Levels.{arena_of};
-ghost use Rattle.walk.specs.code.Nodes.{Sized};
-ghost use Rattle.rule.specs.code.Parts.{mark_for};
-ghost use Rattle.prune.specs.code.Pruning.{cut_at, Ready};
+ghost use Rattle.std.specs.Prelude.{◌<◌};
+ghost use Rattle.prune.specs.code.Pruning.{Ready, Left, CutOnce};
 
+use crate::strike::Moves;
 use rule::part::{allowed_part, mark_for};
-use sheet::form::wide;
-use sheet::limits::{INDEX, ROW, ROWS};
 use walk::arena::Arena;
-use walk::level::Level;
 
-// What is left of node k's mask is stored. A node whose mask is gone joins the queue, where that has room: it tells which nodes are worth
-// another look, and no more hangs on it.
-fn leave(
-    masks: &mut [u8],
-    marks: &mut [u16],
-    queue: &mut [u16],
-    k: usize,
-    rest: u8,
-    tail: usize,
-) -> usize
-    requires { (k < length masks.old) × (length masks.old ≤ length marks.old) × (length masks.old ≤ most_nodes)
-        × (tail ≤ length queue.old) }
-    ensures { (masks.new ≡ set masks.old k rest) × (marks.new ≡ set marks.old k (mark_for rest))
-        × (result ≤ length queue.old) }
-{
-    masks[k] = rest;
-    marks[k] = mark_for(wide(rest));
-    if rest != 0 {
-        return tail;
-    }
-    if queue.len() <= tail {
-        return tail;
-    }
-    queue[tail] = k as u16;
-    tail + 1
+// The masks that bits go out of, over a game's arrays; the marks by which the walk counts a node without a mask as fallen; and a queue: the
+// first so many of its entries are nodes that fell, as far as it has room. It tells which nodes are worth another look, as the moves tell
+// which position leads where, and no more hangs on either.
+#[derive(Drop)]
+pub struct Pruning<'a, 'm> {
+    pub arena: &'a Arena<'a>,
+    pub moves: &'a Moves,
+    pub masks: &'m mut [u8],
+    pub marks: &'m mut [u16],
+    pub queue: &'m mut [u16],
+    pub tail: usize,
 }
 
-// Node k keeps the part of its mask that may stand by the marks.
-pub(crate) fn cut(
-    p: &[u8],
-    grid: &[[u16; ROW]; ROWS],
-    u: &[u8],
-    firsts: &[u16; INDEX],
-    level: Level,
-    masks: &mut [u8],
-    marks: &mut [u16],
-    queue: &mut [u16],
-    k: usize,
-    tail: usize,
-) -> usize
-    requires { (Sized (length p.now) level) × (k < level.nodes) × (Ready level masks.old marks.old (length queue.old) tail) }
-    ensures { (masks.new
-        ≡ cut_at (arena_of p.now grid.now u.now firsts.now level) masks.old k)
-        × (Ready level masks.new marks.new (length queue.old) result) }
-{
-    let mask = masks[k];
-    if mask == 0 {
-        return tail;
+impl Pruning<'_, '_> {
+    // What is left of node k's mask is stored. A node whose mask is gone joins the queue.
+    fn leave(&mut self, k: usize, rest: u8)
+        requires { (Ready self.old) × (k < self.old.arena.now.level.nodes) }
+        ensures { Left self.old k rest self.new }
+    {
+        self.masks[k] = rest;
+        self.marks[k] = mark_for(usize::from(rest));
+        let tail = self.tail;
+        if rest == 0 && tail < self.queue.len() {
+            self.queue[tail] = k as u16;
+            self.tail = tail + 1;
+        }
     }
-    let arena = Arena {
-        positions: p,
-        grid,
-        moves: u,
-        firsts,
-        level,
-    };
-    let rest = allowed_part(&arena, marks, k, wide(mask));
-    leave(masks, marks, queue, k, rest as u8, tail)
+
+    // Node k keeps the part of its mask that may stand by the marks. Says whether it had more.
+    pub(crate) fn cut(&mut self, k: usize) -> bool
+        requires { (Ready self.old) × (k < self.old.arena.now.level.nodes) }
+        ensures { CutOnce self.old k self.new result }
+    {
+        let mask = self.masks[k];
+        if mask == 0 {
+            return false;
+        }
+        let arena = self.arena;
+        let marks = &mut *self.marks;
+        let rest = allowed_part(arena, marks, k, usize::from(mask)) as u8;
+        if rest == mask {
+            return false;
+        }
+        self.leave(k, rest);
+        true
+    }
 }

@@ -1,289 +1,152 @@
 // Looking again at the nodes before those that have fallen. A sweep would find them too, so this decides nothing but the time: where one
 // node falls after another, each is met at once and not a whole sweep later. So nothing is promised of the moves that are noted here, and
 // of the masks no more than that bits went out of them which the rule does not allow.
-ghost use Rattle.std.specs.Prelude.{◌≤◌, ◌<◌, length};
+ghost use Rattle.std.specs.Prelude.{◌≤◌, ◌<◌};
 ghost use Rattle.sheet.specs.Limits.{most_actions, most_nodes};
-ghost use Rattle.walk.specs.code.Levels.{arena_of};
-ghost use Rattle.walk.specs.code.Nodes.{Sized};
-ghost use Rattle.prune.specs.code.Pruning.{most_cells, Ready, Goes};
+ghost use Rattle.prune.specs.code.Pruning.{Ready, Goes};
 
-use crate::cut::cut;
-use sheet::form::{byte, wide, wide16};
-use sheet::grid::target;
-use sheet::limits::{ABSENT, INDEX, ROW, ROWS};
+use crate::cut::Pruning;
+use sheet::limits::{ROW, ROWS};
 use walk::level::Level;
 
-// The bytes of a position's row of moves, a bit for each position from where one leads there; and of all rows.
-const MOVES_ROW: usize = 32;
+// For each position a bit for each position from where a move leads to it.
+pub(crate) const MOVES_ROW: usize = 32;
 
-pub(crate) const MOVES: usize = ROWS * MOVES_ROW;
+pub type Moves = [[u8; MOVES_ROW]; ROWS];
+
+// Does a move lead from position q to r?
+fn is_move(moves: &Moves, q: u8, r: u8) -> bool {
+    let row = &moves[usize::from(r)];
+    (row[usize::from(q / 8)] >> (q % 8)) % 2 == 1
+}
+
+// Notes the moves of the U body.
+pub(crate) fn note_moves(u: &[u8], moves: &mut Moves) {
+    let (lines, _) = u.as_chunks::<2>();
+    for line in lines {
+        let q = line[0];
+        let r = line[1];
+        let row = &mut moves[usize::from(r)];
+        row[usize::from(q / 8)] |= 1 << (q % 8);
+    }
+}
 
 // A fallen node's position, and what its word says of the nodes before it: their word is their oldest action times younger, plus rest, and
-// the action is the one by which they lead there. Where no word is pending that is the oldest one itself.
+// the action is the one by which they lead there. Where no word is pending there is none, and that is the oldest one itself.
 #[derive(Clone, Copy)]
 pub struct Spot {
     pub at: u8,
     pub words: u16,
     pub younger: u16,
     pub rest: u16,
-    pub action: u8,
-    pub single: bool,
+    pub action: Option<u8>,
 }
 
-fn spot_at(level: Level, j: usize) -> Spot
-    requires { (0 < level.words) × (level.words ≤ most_nodes) × (0 < level.actions) × (level.actions ≤ most_actions) }
-{
-    let word = j % level.words;
-    Spot {
-        at: (j / level.words % ROWS) as u8,
-        words: level.words as u16,
-        younger: (level.words / level.actions) as u16,
-        rest: (word / level.actions) as u16,
-        action: (word % level.actions) as u8,
-        single: level.words == 1,
+impl Spot {
+    fn new(level: Level, j: usize) -> Spot
+        requires { (0 < level.words) × (level.words ≤ most_nodes) × (0 < level.actions) × (level.actions ≤ most_actions) }
+    {
+        let word = j % level.words;
+        let action = (word % level.actions) as u8;
+        Spot {
+            at: (j / level.words % ROWS) as u8,
+            words: level.words as u16,
+            younger: (level.words / level.actions) as u16,
+            rest: (word / level.actions) as u16,
+            action: if level.words == 1 { None } else { Some(action) },
+        }
+    }
+
+    // The node of position q whose oldest action is h.
+    fn node(&self, q: u8, h: u8) -> usize {
+        usize::from(q) * usize::from(self.words)
+            + usize::from(h) * usize::from(self.younger)
+            + usize::from(self.rest)
+    }
+
+    // Does that node's mask have the action by which it leads to the fallen one?
+    fn leads_by(&self, mask: u8, h: u8) -> bool {
+        let action = self.action.unwrap_or(h);
+        (mask >> (action % 8)) % 2 == 1
     }
 }
 
-// Does a move lead from position q to r?
-fn is_move(moves: &[u8], q: u8, r: u8) -> bool {
-    let bits = byte(moves, wide(r) * MOVES_ROW + wide(q) / 8);
-    (bits >> (q % 8)) % 2 == 1
-}
-
-// Notes the move of the line that ends with byte i of the U body.
-fn note_move(u: &[u8], moves: &mut [u8], i: usize) {
-    if i % 2 == 0 {
-        return;
+impl Pruning<'_, '_> {
+    // The node of position q whose oldest action is h is looked at again, where it has the action that leads to the fallen one.
+    fn strike(&mut self, spot: &Spot, q: u8, h: u8)
+        requires { Ready self.old }
+        ensures { Goes self.old self.new }
+    {
+        let k = spot.node(q, h);
+        if k < self.masks.len() && spot.leads_by(self.masks[k], h) {
+            self.cut(k);
+        }
     }
-    let q = byte(u, i - 1);
-    let r = byte(u, i);
-    let at = wide(r) * MOVES_ROW + wide(q) / 8;
-    if moves.len() <= at {
-        return;
-    }
-    moves[at] = moves[at] | (1 << (q % 8));
-}
 
-pub(crate) fn note_moves(u: &[u8], moves: &mut [u8]) {
-    for i in 0..u.len() {
-        note_move(u, moves, i);
+    // Odd delays: a move leads to position s, from where action h leads to the fallen node's.
+    fn strike_sources(&mut self, spot: &Spot, s: u8, h: u8)
+        requires { Ready self.old }
+        ensures { Goes self.old self.new }
+    {
+        for q in 0..self.arena.positions.len() {
+            let q = q as u8;
+            if is_move(self.moves, q, s) {
+                self.strike(spot, q, h);
+            }
+        }
     }
-}
 
-// The node of position q whose oldest action is h.
-fn node_at(spot: Spot, q: u8, h: u8) -> usize {
-    wide(q) * wide16(spot.words) + wide(h) * wide16(spot.younger) + wide16(spot.rest)
-}
-
-// Does that node still have the action that leads to the fallen one?
-fn has_action(masks: &[u8], spot: Spot, k: usize, h: u8) -> bool {
-    let action = if spot.single { h } else { spot.action };
-    (byte(masks, k) >> (action % 8)) % 2 == 1
-}
-
-// That node is looked at again, where a move leads from a to b and it has the action.
-fn strike(
-    p: &[u8],
-    grid: &[[u16; ROW]; ROWS],
-    u: &[u8],
-    firsts: &[u16; INDEX],
-    level: Level,
-    moves: &[u8],
-    masks: &mut [u8],
-    marks: &mut [u16],
-    queue: &mut [u16],
-    spot: Spot,
-    a: u8,
-    b: u8,
-    q: u8,
-    h: u8,
-    tail: usize,
-) -> usize
-    requires { (Sized (length p.now) level) × (0 < level.actions)
-        × (Ready level masks.old marks.old (length queue.old) tail) }
-    ensures { Goes (arena_of p.now grid.now u.now firsts.now level) level masks.old
-        masks.new marks.new (length queue.old) result }
-{
-    if !is_move(moves, a, b) {
-        return tail;
+    // Action h leads from position s to t, where that is one. Even delays: a move leads from there to the fallen node's position.
+    fn strike_cell(&mut self, spot: &Spot, s: u8, h: u8, t: u16)
+        requires { Ready self.old }
+        ensures { Goes self.old self.new }
+    {
+        let Ok(t) = u8::try_from(t) else {
+            return;
+        };
+        if self.arena.level.odd {
+            if t == spot.at {
+                self.strike_sources(spot, s, h);
+            }
+        } else if is_move(self.moves, t, spot.at) {
+            self.strike(spot, s, h);
+        }
     }
-    let k = node_at(spot, q, h);
-    if level.nodes <= k {
-        return tail;
-    }
-    if !has_action(masks, spot, k, h) {
-        return tail;
-    }
-    cut(p, grid, u, firsts, level, masks, marks, queue, k, tail)
-}
 
-// Even delays: cell x's action is played, and a move leads from its target to the fallen node's position.
-fn strike_caller(
-    p: &[u8],
-    grid: &[[u16; ROW]; ROWS],
-    u: &[u8],
-    firsts: &[u16; INDEX],
-    level: Level,
-    moves: &[u8],
-    masks: &mut [u8],
-    marks: &mut [u16],
-    queue: &mut [u16],
-    spot: Spot,
-    x: usize,
-    tail: usize,
-) -> usize
-    requires { (Sized (length p.now) level) × (0 < level.actions) × (x < most_cells)
-        × (Ready level masks.old marks.old (length queue.old) tail) }
-    ensures { Goes (arena_of p.now grid.now u.now firsts.now level) level masks.old
-        masks.new marks.new (length queue.old) result }
-{
-    let t = target(grid, x / ROW, x % ROW);
-    if t == ABSENT {
-        return tail;
+    // The actions at position s.
+    fn strike_row(&mut self, spot: &Spot, s: u8, row: &[u16; ROW])
+        requires { Ready self.old }
+        ensures { Goes self.old self.new }
+    {
+        for (h, &t) in row.iter().enumerate() {
+            self.strike_cell(spot, s, h as u8, t);
+        }
     }
-    strike(
-        p,
-        grid,
-        u,
-        firsts,
-        level,
-        moves,
-        masks,
-        marks,
-        queue,
-        spot,
-        (t % ABSENT) as u8,
-        spot.at,
-        (x / ROW) as u8,
-        (x % ROW) as u8,
-        tail,
-    )
-}
 
-// Does cell x's action lead to the fallen node's position?
-fn leads_there(grid: &[[u16; ROW]; ROWS], spot: Spot, x: usize) -> bool {
-    wide16(target(grid, x / ROW, x % ROW)) == wide(spot.at)
-}
-
-// Odd delays: a move leads to cell x's position, and its action to the fallen node's.
-fn strike_sources(
-    p: &[u8],
-    grid: &[[u16; ROW]; ROWS],
-    u: &[u8],
-    firsts: &[u16; INDEX],
-    level: Level,
-    moves: &[u8],
-    masks: &mut [u8],
-    marks: &mut [u16],
-    queue: &mut [u16],
-    spot: Spot,
-    x: usize,
-    tail: usize,
-) -> usize
-    requires { (Sized (length p.now) level) × (0 < level.actions) × (x < most_cells)
-        × (Ready level masks.old marks.old (length queue.old) tail) }
-    ensures { Goes (arena_of p.now grid.now u.now firsts.now level) level masks.old
-        masks.new marks.new (length queue.old) result }
-{
-    if !leads_there(grid, spot, x) {
-        return tail;
+    // All nodes before node j.
+    fn strike_before(&mut self, j: usize)
+        requires { Ready self.old }
+        ensures { Goes self.old self.new }
+    {
+        let arena = self.arena;
+        let spot = Spot::new(arena.level, j);
+        let grid = arena.grid;
+        let n = arena.positions.len();
+        for (s, row) in grid[..n].iter().enumerate() {
+            self.strike_row(&spot, s as u8, row);
+        }
     }
-    let s = (x / ROW) as u8;
-    let h = (x % ROW) as u8;
-    let mut end = tail;
-    for q in 0..p.len() {
-        end = strike(
-            p, grid, u, firsts, level, moves, masks, marks, queue, spot, q as u8, s, q as u8, h,
-            end,
-        );
-    }
-    end
-}
 
-// By the delay's parity.
-fn strike_cell(
-    p: &[u8],
-    grid: &[[u16; ROW]; ROWS],
-    u: &[u8],
-    firsts: &[u16; INDEX],
-    level: Level,
-    moves: &[u8],
-    masks: &mut [u8],
-    marks: &mut [u16],
-    queue: &mut [u16],
-    spot: Spot,
-    x: usize,
-    tail: usize,
-) -> usize
-    requires { (Sized (length p.now) level) × (0 < level.actions) × (x < most_cells)
-        × (Ready level masks.old marks.old (length queue.old) tail) }
-    ensures { Goes (arena_of p.now grid.now u.now firsts.now level) level masks.old
-        masks.new marks.new (length queue.old) result }
-{
-    if level.odd {
-        return strike_sources(
-            p, grid, u, firsts, level, moves, masks, marks, queue, spot, x, tail,
-        );
-    }
-    strike_caller(
-        p, grid, u, firsts, level, moves, masks, marks, queue, spot, x, tail,
-    )
-}
-
-// All nodes before node j.
-fn strike_before(
-    p: &[u8],
-    grid: &[[u16; ROW]; ROWS],
-    u: &[u8],
-    firsts: &[u16; INDEX],
-    level: Level,
-    moves: &[u8],
-    masks: &mut [u8],
-    marks: &mut [u16],
-    queue: &mut [u16],
-    j: usize,
-    tail: usize,
-) -> usize
-    requires { (Sized (length p.now) level) × (0 < level.actions)
-        × (Ready level masks.old marks.old (length queue.old) tail) }
-    ensures { Goes (arena_of p.now grid.now u.now firsts.now level) level masks.old
-        masks.new marks.new (length queue.old) result }
-{
-    let spot = spot_at(level, j);
-    let mut end = tail;
-    for x in 0..p.len() * ROW {
-        end = strike_cell(
-            p, grid, u, firsts, level, moves, masks, marks, queue, spot, x, end,
-        );
-    }
-    end
-}
-
-// All nodes before those in the queue, and before those that join it meanwhile.
-pub(crate) fn drain(
-    p: &[u8],
-    grid: &[[u16; ROW]; ROWS],
-    u: &[u8],
-    firsts: &[u16; INDEX],
-    level: Level,
-    moves: &[u8],
-    masks: &mut [u8],
-    marks: &mut [u16],
-    queue: &mut [u16],
-    tail: usize,
-)
-    requires { (Sized (length p.now) level) × (0 < level.actions) × (length queue.old ≤ most_nodes)
-        × (Ready level masks.old marks.old (length queue.old) tail) }
-    ensures { Goes (arena_of p.now grid.now u.now firsts.now level) level masks.old
-        masks.new marks.new (length queue.old) 0 }
-{
-    let mut at: usize = 0;
-    let mut end = tail;
-    while at < end {
-        let j = wide16(queue[at]);
-        end = strike_before(
-            p, grid, u, firsts, level, moves, masks, marks, queue, j, end,
-        );
-        at += 1;
+    // All nodes before those in the queue, and before those that join it meanwhile.
+    pub(crate) fn drain(&mut self)
+        requires { Ready self.old }
+        ensures { Goes self.old self.new }
+    {
+        let mut at: usize = 0;
+        while at < self.tail {
+            let j = usize::from(self.queue[at]);
+            self.strike_before(j);
+            at += 1;
+        }
     }
 }

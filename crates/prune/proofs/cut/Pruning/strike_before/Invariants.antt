@@ -1,0 +1,6 @@
+-- `strike_before` meets its contract. Assumes nothing.
+use Rattle.prune.specs.code.Pruning.{Goes}
+use Rattle.prune.proofs.cut.Pruning.strike_before.Given as goal
+
+abbrev pub invariant-loop-s : goal.invariant-loop-s
+invariant-loop-s l = Goes l.initial.self l.self
