@@ -3,11 +3,12 @@
 use Prim.Native.Nat.{ℕ, suc, ◌+◌, ◌≤◌, ◌<◌}
 use mathlib.Core.Path.{◌≡◌, refl, sym, ◌∙◌, ap, fun_ext}
 use mathlib.Core.Bool.{Bool, true, false, not, cond}
-use mathlib.Core.List.{List}
+use mathlib.Core.List.{List, [], ◌∷◌}
 use mathlib.Core.Logic.{⊎_elim}
 use native.Mathlib.Omega.{arith}
 use native.Mathlib.Numerals.{add-one}
-use lib.Dec.{eqb}
+use lib.Dec.{eqb, ltb}
+use Rattle.std.specs.List.{list_any}
 use lib.ListN.{length, get_or, set, drop, drop_of_length-le}
 use lib.Seq.{drop-cons}
 use borrow.Author.Rules.{rules}
@@ -25,75 +26,23 @@ use Rattle.sheet.specs.code.Arrays.{view_of}
 use Rattle.table.specs.TableSheet.{below_at, bytes_below}
 use Rattle.notice.specs.code.Closed.{closed_byte, closed_at, closed_body}
 
--- a position is looked for from entry i on
+-- a position is looked for, and check 23
 
-module _ (ps : List ℕ) (q : ℕ) where
-  pub listed_start : listed ps q ≡ listed (drop 0 ps) q
-  listed_start = refl
-
-  module _ (i : ℕ) (h : i < length ps) (e : listed ps q ≡ listed (drop i ps) q) where
-    listed_here : listed ps q ≡ either (eqb q (get_or ps i 0)) (listed (drop (suc i) ps) q)
-    listed_here = e ∙ ap (λ l. listed l q) (drop-cons ps i 0 h) ∙ listed_cons (get_or ps i 0) (drop (suc i) ps) q
-
-    pub listed_found : {b x : ℕ} → b ≡ x → x ≡ get_or ps i 0 → b ≡ q → true ≡ listed ps q
-    listed_found a c d = sym (listed_here ∙ either_left _ _ (eq-eqb q (get_or ps i 0) (sym d ∙ a ∙ c)))
-
-    pub listed_next : {b x : ℕ} → b ≡ x → x ≡ get_or ps i 0 → (b ≡ q → ⊥) → listed ps q ≡ listed (drop (i + 1) ps) q
-    listed_next a c n =
-        listed_here
-        ∙ either_second _ _ (ne_eqb q (get_or ps i 0) (λ d. n (a ∙ c ∙ sym d)))
-        ∙ ap (λ j. listed (drop j ps) q) (sym (add-one i))
-
-  pub listed_end : (i : ℕ) → length ps ≤ i → listed ps q ≡ listed (drop i ps) q → false ≡ listed ps q
-  listed_end i h e = sym (e ∙ ap (λ l. listed l q) (drop_of_length-le ps {i = i} h) ∙ listed_nil q)
-
-pub ruleset listing = (rules, listed_start, listed_found, listed_next, listed_end)
-
--- check 23
-
-module _ (n : ℕ) (ps : List ℕ) where
-  pub exist_next : (i : ℕ) {b x : ℕ} → all_below (below_at n ps) i ≡ true → b ≡ x → x ≡ get_or ps i 0 → b < n
-      → all_below (below_at n ps) (i + 1) ≡ true
-  unfolding below_at
-  exist_next i e a c h = all_again (below_at n ps) i e refl (lt-ltb (get_or ps i 0) n (omega arith))
-
-  pub exist_stops : (i : ℕ) {b x : ℕ} → i < length ps → b ≡ x → x ≡ get_or ps i 0 → n ≤ b → false ≡ bytes_below n ps
-  unfolding bytes_below below_at
-  exist_stops i l a c h = sym (all_fails (below_at n ps) i (length ps) l (le-ltb (get_or ps i 0) n (omega arith)))
-
-  pub exist_ends : (i : ℕ) → i ≤ length ps → length ps ≤ i → all_below (below_at n ps) i ≡ true → true ≡ bytes_below n ps
-  unfolding bytes_below
-  exist_ends i a b e = sym (all_done (below_at n ps) a b e)
-
-pub ruleset existing = (rules, all_none, exist_next, exist_stops, exist_ends)
+pub any_listed : (ps : List ℕ) (q : ℕ) → list_any (λ x. eqb x q) ps ≡ listed ps q
+any_listed [] q = sym (listed_nil q)
+any_listed (x ∷ ps) q =
+    ⊎_elim
+    (λ (e : q ≡ x). rw (eq-eqb x q (sym e), listed_cons x ps q, eq-eqb q x e) (sym (either_left true (listed ps q) refl)))
+    (λ (n : q ≡ x → ⊥).
+    rw (ne_eqb x q (λ e. n (sym e)), listed_cons x ps q, ne_eqb q x n) (any_listed ps q ∙ sym (either_second false (listed ps q) refl)))
+    (same? q x)
 
 -- one byte
 
 module _ (b : ℕ) where
-  pub close_own : b ≡ 0 → 1 ≡ closed_byte b
-  unfolding closed_byte
-  close_own e = rw (eq-eqb b 0 e)
-
-  pub close_yard : b ≡ 2 → 3 ≡ closed_byte b
-  unfolding closed_byte
-  close_yard e = rw (ne_eqb b 0 (λ z. omega arith), eq-eqb b 2 e)
-
-  pub close_unsafe : (b ≡ 0 → ⊥) → (b ≡ 2 → ⊥) → b ≡ closed_byte b
+  close_unsafe : (b ≡ 0 → ⊥) → (b ≡ 2 → ⊥) → b ≡ closed_byte b
   unfolding closed_byte
   close_unsafe n m = rw (ne_eqb b 0 n, ne_eqb b 2 m)
-
-pub ruleset a_byte = (rules, close_own, close_yard, close_unsafe)
-
-module _ (p ps : List ℕ) (q : ℕ) {b : ℕ} (e : b ≡ get_or p q 0) where
-  pub at_listed : {r c : _} → r ≡ listed ps q → r ≡ true → c ≡ closed_byte b → c ≡ closed_at p ps q
-  unfolding closed_at
-  at_listed f t g = g ∙ rw (sym f ∙ t, e)
-
-  pub at_other : {r : Bool} → r ≡ listed ps q → r ≡ false → b ≡ closed_at p ps q
-  unfolding closed_at
-  at_other f t = e ∙ rw (sym f ∙ t)
-
-pub ruleset closing_one = (rules, at_listed, at_other)
 
 -- the body
 
@@ -110,7 +59,17 @@ module _ (p ps to : List ℕ) (room : length p ≤ length to) where
   body_done q e a b =
       let s : q ≡ length p = omega arith in e ∙ ap (λ n. filled (closed_at p ps) n to) s ∙ filled_over (closed_at p ps) to (length p)
 
-pub ruleset closing_all = (rules, body_start, body_more, body_done)
+  -- a byte of it
+  module _ (q : ℕ) {b : ℕ} (e : b ≡ get_or p q 0) where
+    pub at_listed : {r : Bool} {c : ℕ} → r ≡ listed ps q → r ≡ true → c ≡ closed_byte b → c ≡ closed_at p ps q
+    unfolding closed_at
+    at_listed f t g = g ∙ rw (sym f ∙ t, e)
+
+    pub at_other : {r : Bool} → r ≡ listed ps q → r ≡ false → b ≡ closed_at p ps q
+    unfolding closed_at
+    at_other f t = e ∙ rw (sym f ∙ t)
+
+pub ruleset closing_all = (rules, body_start, at_listed, at_other, body_more, body_done)
 
 -- the kind of a closed position
 

@@ -28,7 +28,7 @@ use Rattle.sheet.specs.code.Arrays.{firsts_of, view_of, bodies_game}
 use Rattle.reader.specs.Reading.{read_answer}
 use Rattle.reader.specs.code.Laid.{grid_at}
 use Rattle.reader.specs.declared.reading.Layout.{Layout}
-use Rattle.reader.specs.declared.reading.Reading.TheVariants.{Accepted}
+use Rattle.std.proofs.Common.{Ok}
 use Rattle.reader.proofs.Accepted.{carries, few_nodes, arena_nodes}
 use Rattle.reader.proofs.Legality.{legal_game}
 use Rattle.walk.specs.declared.level.Level.{Level}
@@ -46,13 +46,6 @@ use Rattle.notice.proofs.CloseLaws.{body_length, view_closed}
 
 -- the masks: pruned over the arrays of a sheet in which the notice's positions are closed
 
-pub arrays_pruned : (s : List ℕ) (l : Layout) (p before after : List ℕ) (u : List ℕ) (g : List (List ℕ)) (f : List ℕ) (v : Level)
-    → u ≡ part_at s l.moves → g ≡ grid_at s l → f ≡ firsts_of u
-    → v ≡ level_to (length p) l.start l.actions l.delay → PrunedLeft p g u f v before after → PrunedIn s l p before after
-arrays_pruned s l p before after u g f v eu eg ef ev x = rw (← eu, ← eg, ← ef, ← ev) x
-
-pub ruleset pruning_arrays = (rules, arrays_pruned)
-
 module _ (s : List ℕ) (l : Layout) (reads : read_answer s ≡ accepted l) (ps : List ℕ) where
   abbrev P : List ℕ
   P = part_at s l.positions
@@ -64,7 +57,7 @@ module _ (s : List ℕ) (l : Layout) (reads : read_answer s ≡ accepted l) (ps 
   d = delay_of s
 
   few_here : length P ≤ most_positions
-  few_here = (room_read s (Accepted l) (sym reads) l refl P refl).few_positions
+  few_here = (room_read s (Ok l) (sym reads) l refl P refl).few_positions
 
   pub closed_room : {p : List ℕ} → p ≡ P → length p ≤ length (replicate {A = ℕ} most_positions 0)
   closed_room e = rw e (omega (arith, few_here, length-replicate {A = ℕ} most_positions 0))
@@ -91,19 +84,19 @@ module _ (s : List ℕ) (l : Layout) (reads : read_answer s ≡ accepted l) (ps 
   shut = arena_of (closed_body P ps) (grid_at s l) (part_at s l.moves) (firsts_of (part_at s l.moves)) level
 
   sized_shut : Sized (length (closed_body P ps)) level
-  sized_shut = rw (body_length P ps) (sized_read s (Accepted l) (sym reads) l refl P refl _ refl)
+  sized_shut = rw (body_length P ps) (sized_read s (Ok l) (sym reads) l refl P refl _ refl)
 
   game_shut : view_of (closed_body P ps) (grid_at s l) (part_at s l.moves) (firsts_of (part_at s l.moves)) l.start l.actions
       ≡ close G ps
   unfolding bodies_game
   game_shut =
       view_closed P ps _ _ _ l.start l.actions
-      ∙ ap (λ H. close H ps) (game_read s (Accepted l) (sym reads) l refl P refl (grid_at s l) (part_at s l.moves) refl refl)
+      ∙ ap (λ H. close H ps) (game_read s (Ok l) (sym reads) l refl P refl (grid_at s l) (part_at s l.moves) refl refl)
 
   arena_shut : shut ≡ arena (close G ps) d
   arena_shut =
       ap (arena_of (closed_body P ps) _ _ _)
-      (rw (body_length P ps) (is_level s (Accepted l) (sym reads) l refl P refl _ refl))
+      (rw (body_length P ps) (is_level s (Ok l) (sym reads) l refl P refl _ refl))
       ∙ arena_is (closed_body P ps) _ _ _ l.start l.actions l.delay
       ∙ rw (game_shut, (carries s l reads).delay)
 
@@ -151,7 +144,7 @@ module _ (s : List ℕ) (l : Layout) (reads : read_answer s ≡ accepted l) (ps 
     unfolding is_prunable
     prunable =
         both_true _ _ (fitted (length (closed_body P ps)) level (length masks) sized_shut (count_is ∙ sym nodes_shut))
-        (le-leb 1 l.actions (room_read s (Accepted l) (sym reads) l refl P refl).some_action)
+        (le-leb 1 l.actions (room_read s (Ok l) (sym reads) l refl P refl).some_action)
 
     pruned_is : (t : List ℕ) → PrunedIn s l (closed_body P ps) masks t → Pruned (arena (close G ps) d) masks t
     unfolding PrunedBy

@@ -32,21 +32,20 @@ use Rattle.sheet.specs.Bodies.{positions_body, delay_of}
 use Rattle.sheet.specs.SheetGame.{game_of}
 use Rattle.sheet.specs.Refusals.{number_of}
 use Rattle.sheet.specs.declared.refusal.Refusal.{Refusal}
-use Rattle.reader.specs.Reading.{read_answer, reading_means, refusal_number}
-use Rattle.reader.specs.declared.reading.Reading.{Reading}
-use Rattle.reader.specs.declared.reading.Reading.TheVariants as reading
+use Rattle.sheet.specs.Refusals.{answer_of, answer_by}
+use Rattle.std.proofs.Common.{Result, Ok, Err}
+use Rattle.reader.specs.Reading.{read_answer}
 use Rattle.reader.specs.declared.reading.Layout.{Layout}
 use Rattle.reader.proofs.Accepted.{carries, few_nodes, arena_nodes, read_accepted, read_refused}
 use Rattle.reader.proofs.Legality.{legal_game}
 use Rattle.rule.specs.code.Parts.{Marked, marks_after}
 use Rattle.rule.proofs.PartCode.{after_marked}
+use Rattle.judge.specs.Judging.{sheets_agree}
 use Rattle.judge.specs.code.Judgeable.{table_with, layouts_agree, Judgeable}
 use Rattle.judge.proofs.JudgeLaws.{agree_layouts}
 use Rattle.judge.proofs.Accepted.{Agrees, agrees, agreed_fits}
 use Rattle.judge.proofs.WordLaws.{flag_test, good_same, flag_in}
-use Rattle.table.specs.TableSheet.{table_at, bytes_below, shape_answer, some_flagged, table_reading_means}
-use Rattle.table.specs.declared.reading.TableReading.{TableReading}
-use Rattle.table.specs.declared.reading.TableReading.TheVariants as table
+use Rattle.table.specs.TableSheet.{table_at, bytes_below, shape_answer, some_flagged}
 use Rattle.table.proofs.Accepted.{shape_accepted}
 use Rattle.table.specs.declared.reading.TableLayout.{TableLayout}
 use Rattle.text.specs.Page.{Page, page, puts}
@@ -55,7 +54,7 @@ use Rattle.writer.specs.SheetBytes.{header_of, table_bytes, table_sheet, written
 use Rattle.writer.proofs.Readable.{sheet_ranged, few_words, table_short}
 use Rattle.writer.proofs.WriteLaws.{table_size, written_whole}
 use Rattle.notice.proofs.Accepted.{posting_checks, posted_length}
-use Rattle.notice.specs.Posting.{Written, sheet_with, fitted_answer, post_answer, posting, output_posted, written_of, posting_means}
+use Rattle.notice.specs.Posting.{Written, sheet_with, fitted_answer, post_answer, posting, output_posted, written_of, written_by}
 use Rattle.notice.specs.declared.posting.Posting.TheVariants.{Posted, Emptied}
 use Rattle.notice.specs.code.Left.{left_of, good_flags_by, start_shut, kept_flag, kept_flag_at, kept_after, numbers_of, Agreed, Postable, written_with, written_left}
 
@@ -200,19 +199,12 @@ module _ (s : List ℕ) (l : Layout) (ps flags masks : List ℕ) (reads : read_a
   few_masks : length masks ≤ most_nodes
   few_masks = omega (arith, fits.masks_length, arena_nodes s d, few_nodes s l reads)
 
-  pub masks_inside : {n m m' : ℕ} → n ≡ length masks → m' ≡ m → most_nodes ≤ m → n ≤ m'
-  masks_inside e q h = omega (arith, few_masks)
+  -- buffers for the largest table have room
+  pub masks_fit : {m : ℕ} → most_nodes ≤ m → length masks ≤ m
+  masks_fit h = omega (arith, few_masks)
 
-  pub masks_counted : (left : List ℕ) {n m : ℕ} → n ≡ length masks → length left ≡ m → most_nodes ≤ m → n ≡ length (take n left)
-  masks_counted left {n} e q h = sym (length-take-le n left (omega (arith, few_masks)))
-
-  pub words_room : {m : ℕ} → most_words ≤ m → length flags ≤ m
-  words_room h = omega (arith, fits.flags_length, few_words G d (sheet_ranged s l reads))
-
-  pub masks_left_lem : (left : List ℕ) {n : ℕ} → n ≡ length masks → take n left ≡ (left_of s ps [] masks).masks → take (length masks) left ≡ P.masks
-  masks_left_lem left e f = rw (← e) (f ∙ masks_same)
-
-pub ruleset left_tables = (rules, masks_sized, masks_inside, masks_counted, words_room, words_left, masks_left_lem)
+  pub flags_fit : {m : ℕ} → most_words ≤ m → length flags ≤ m
+  flags_fit h = omega (arith, fits.flags_length, few_words G d (sheet_ranged s l reads))
 
 -- the sheet is written
 
@@ -234,17 +226,12 @@ module _ (x : TableLayout) (h flags masks out out' : List ℕ) (size : ℕ) (eh 
   size_is = ap (λ (p : Page). p.at) whole
 
   pub some_left : {r : Bool} → r ≡ some_flagged (table_with flags []) → r ≡ true
-      → posting_means (Posted size) ≡ written_with flags (length (table_bytes (numbers_of x) flags masks))
+      → written_by (Posted size) ≡ written_with flags (length (table_bytes (numbers_of x) flags masks))
   some_left e t = rw (← size_is, ← e, t)
 
   pub none_left : {r : Bool} → r ≡ some_flagged (table_with flags []) → r ≡ false
-      → posting_means (Emptied size) ≡ written_with flags (length (table_bytes (numbers_of x) flags masks))
+      → written_by (Emptied size) ≡ written_with flags (length (table_bytes (numbers_of x) flags masks))
   none_left e t = rw (← size_is, ← e, t)
-
-pub front_counted : (w : ℕ) (buffer : List ℕ) → w ≤ length buffer → w ≡ length (take w buffer)
-front_counted w buffer h = sym (length-take-le w buffer h)
-
-pub ruleset fronts = (rules, front_counted)
 
 pub ruleset written_left_lem = (rules, out_is, some_left, none_left)
 
@@ -272,42 +259,46 @@ module _ (s : List ℕ) (l : Layout) (x : TableLayout) (ps flags masks : List �
         can.fits.masks_length,
       )
 
-  module _ (w n : ℕ) (good buffer : List ℕ) (ew : w ≡ length flags) (en : n ≡ length masks) (ef : take (length flags) good ≡ left.flags)
-      (em : take (length masks) buffer ≡ left.masks) where
-    flags_are : take w good ≡ left.flags
-    flags_are = rw ew ef
+  pub bodies_sized : SizedMasks (arena (game_of s) (delay_of s)) masks
+  bodies_sized = masks_sized s l ps flags masks can.reads can.fits
 
-    masks_are : take n buffer ≡ left.masks
-    masks_are = rw en em
+  pub masks_inside : {m : ℕ} → m ≡ most_nodes → length masks ≤ m
+  masks_inside e = masks_fit s l ps flags masks can.reads can.fits (omega arith)
 
-    bytes_are : table_bytes (numbers_of x) (take w good) (take n buffer) ≡ sheet_with s left
+  pub flags_inside : {m : ℕ} → m ≡ most_words → length flags ≤ m
+  flags_inside e = flags_fit s l ps flags masks can.reads can.fits (omega arith)
+
+  -- the buffers hold what is left
+  module _ (buffer good₀ good : List ℕ) (em : take (length masks) buffer ≡ (left_of s ps [] masks).masks) (room₀ : most_words ≤ length good₀)
+      (eg : good ≡ kept_after (start_shut l.delay l.start ps) flags (good_flags_by s (take (length masks) buffer) good₀)) where
+    flags_are : take (length flags) good ≡ left.flags
+    flags_are = words_left s l ps flags masks can.reads can.fits (take (length masks) buffer) good₀ em room₀ eg
+
+    masks_are : take (length masks) buffer ≡ left.masks
+    masks_are = em ∙ masks_same s l ps flags masks can.reads can.fits
+
+    bytes_are : table_bytes (numbers_of x) (take (length flags) good) (take (length masks) buffer) ≡ sheet_with s left
     bytes_are = rw (flags_are, masks_are) sheet_is
 
-    pub sheet_short : length (table_bytes (numbers_of x) (take w good) (take n buffer)) < 65536
-    sheet_short =
-        rw bytes_are
-        (table_short (game_of s) (delay_of s) left left_fitted (sheet_ranged s l can.reads))
+    pub sheet_short : length (table_bytes (numbers_of x) (take (length flags) good) (take (length masks) buffer)) < 65536
+    sheet_short = rw bytes_are (table_short (game_of s) (delay_of s) left left_fitted (sheet_ranged s l can.reads))
 
-    pub sheet_room : length (table_bytes (numbers_of x) (take w good) (take n buffer)) ≤ room
+    pub sheet_room : length (table_bytes (numbers_of x) (take (length flags) good) (take (length masks) buffer)) ≤ room
     sheet_room = rw (bytes_are, ← sheet_is, sheet_size) can.room_enough
 
-    pub answer_left : {a : Answer Written} → a ≡ written_with (take w good) (length (table_bytes (numbers_of x) (take w good) (take n buffer)))
+    pub answer_left : {a : Written}
+        → a ≡ written_with (take (length flags) good) (length (table_bytes (numbers_of x) (take (length flags) good) (take (length masks) buffer)))
         → a ≡ written_left s ps flags masks
     unfolding some_flagged flagged
     answer_left e = e ∙ rw (bytes_are, flags_are)
 
-    pub output_left : (out : List ℕ) {out' : List ℕ} → out' ≡ over (table_bytes (numbers_of x) (take w good) (take n buffer)) out
+    pub output_left : (out : List ℕ) {out' : List ℕ}
+        → out' ≡ over (table_bytes (numbers_of x) (take (length flags) good) (take (length masks) buffer)) out
         → out' ≡ over (sheet_with s left) out
     output_left out e = e ∙ ap (λ b. over b out) bytes_are
 
-  pub can_words : {w m m' : ℕ} → w ≡ length flags → m' ≡ m → most_words ≤ m → w ≤ m'
-  can_words e q h = let r = words_room s l ps flags masks can.reads can.fits h in omega arith
-
-  pub can_masks : {n m m' : ℕ} → n ≡ length masks → m' ≡ m → most_nodes ≤ m → n ≤ m'
-  can_masks e q h = masks_inside s l ps flags masks can.reads can.fits e q h
-
 pub ruleset bodies_posted =
-    (rules, can_words, can_masks, sheet_short, sheet_room, answer_left, output_left)
+    (rules, bodies_sized, masks_inside, flags_inside, sheet_short, sheet_room, answer_left, output_left)
 
 -- the answer and the output of a refusal
 
@@ -346,18 +337,18 @@ module _ (s : List ℕ) (l : Layout) (t : List ℕ) (x : TableLayout) (ps : List
   answer_is = posting_checks s t ps (length out) l (table_at t x) both.reads both.shape both.agrees
 
   module _ {r : Bool} (e : r ≡ bytes_below l.positions.size ps) where
-    absent_is : not r ≡ true → posting s t ps out ≡ refused 23
-    absent_is f = answer_is ∙ rw (← count_is) (check_failed _ 23 _ (failed e f))
+    absent_is : r ≡ false → posting s t ps out ≡ refused 23
+    absent_is f = answer_is ∙ rw (← count_is) (check_failed _ 23 _ (sym e ∙ f))
 
-    pub absent_answer : {n : ℕ} → not r ≡ true → n ≡ 23 → refused n ≡ written_of s (posting s t ps out)
-    absent_answer f q = rw q (refused_answer s _ 23 (absent_is f))
+    pub absent_answer : r ≡ false → refused 23 ≡ written_of s (posting s t ps out)
+    absent_answer f = refused_answer s _ 23 (absent_is f)
 
-    pub absent_output : not r ≡ true → out ≡ output_posted s (posting s t ps out) out
+    pub absent_output : r ≡ false → out ≡ output_posted s (posting s t ps out) out
     absent_output f = refused_output s _ 23 (absent_is f) out
 
-    module _ (f : not r ≡ false) (w m : List ℕ) (ew : w ≡ part_at t x.flags) (em : m ≡ part_at t x.masks) where
+    module _ (f : r ≡ true) (w m : List ℕ) (ew : w ≡ part_at t x.flags) (em : m ≡ part_at t x.masks) where
       exist : bytes_below (length (positions_body s)) ps ≡ true
-      exist = rw (← count_is) (passed e f)
+      exist = rw (← count_is) (sym e ∙ f)
 
       size_now : length (sheet_with s (post (game_of s) (delay_of s) ps given)) ≡ 19 + length w + length m
       size_now = posted_length s ps given ∙ rw (ew, em, given_fits.flags_length, given_fits.masks_length)
@@ -378,8 +369,8 @@ module _ (s : List ℕ) (l : Layout) (t : List ℕ) (x : TableLayout) (ps : List
       unfolding fitted_answer
       short_is h = next_is ∙ check_failed _ 9 _ (lt-leb _ (length out) (rw size_now h))
 
-      pub short_answer : {n : ℕ} → length out < 19 + length w + length m → n ≡ 9 → refused n ≡ written_of s (posting s t ps out)
-      short_answer h q = rw q (refused_answer s _ 9 (short_is h))
+      pub short_answer : length out < 19 + length w + length m → refused 9 ≡ written_of s (posting s t ps out)
+      short_answer h = refused_answer s _ 9 (short_is h)
 
       pub short_output : length out < 19 + length w + length m → out ≡ output_posted s (posting s t ps out) out
       short_output h = refused_output s _ 9 (short_is h) out
@@ -398,62 +389,64 @@ module _ (s : List ℕ) (l : Layout) (t : List ℕ) (x : TableLayout) (ps : List
               room_enough = rw (table_size (numbers_of x) w m) (omega arith);
             }
 
-        pub taken_answer : {a : Answer Written} → a ≡ written_left s ps w m → a ≡ written_of s (posting s t ps out)
+        pub taken_answer : {a : Written} → a ≡ written_left s ps w m → accepted a ≡ written_of s (posting s t ps out)
         unfolding written_of on_accepted
-        taken_answer e = e ∙ rw taken_is
+        taken_answer e = ap accepted e ∙ rw taken_is
 
         pub taken_output : {out' : List ℕ} → out' ≡ over (sheet_with s (left_of s ps w m)) out → out' ≡ output_posted s (posting s t ps out) out
         unfolding output_posted
         taken_output e = e ∙ rw taken_is
 
-pub ruleset agreed_posted =
-    (rules, absent_answer, absent_output, sizes_fit, short_answer, short_output, postable, taken_answer, taken_output)
-
 -- the checks before; rd and y are the two readings
 
-module _ (s t ps out : List ℕ) (rd : Reading) (e : reading_means rd ≡ read_answer s) where
-  module _ (x : Refusal) (f : rd ≡ reading.Refused x) where
-    unread : (n : ℕ) → n ≡ refusal_number rd → posting s t ps out ≡ refused n
-    unfolding post_answer on_accepted
-    unread n g = rw (read_refused s rd e x n f g)
+module _ (s t : List ℕ) (rd : Result Layout Refusal) (e : answer_of rd ≡ read_answer s) (l : Layout) (a : rd ≡ Ok l)
+    (y : Result TableLayout Refusal) (ey : answer_by (table_at t) y ≡ shape_answer t) where
+  reads : read_answer s ≡ accepted l
+  reads = read_accepted s rd e l a
 
-    pub unread_answer : {n : ℕ} → n ≡ refusal_number rd → refused n ≡ written_of s (posting s t ps out)
-    unread_answer g = refused_answer s _ _ (unread _ g)
+  module _ (x : TableLayout) (b : y ≡ Ok x) {r : Bool} (er : r ≡ layouts_agree l x) where
+    shape : shape_answer t ≡ accepted (table_at t x)
+    shape = sym ey ∙ ap (answer_by (table_at t)) b
 
-    pub unread_output : out ≡ output_posted s (posting s t ps out) out
-    unread_output = refused_output s _ _ (unread _ refl) out
+    agree_is : r ≡ sheets_agree s (table_at t x)
+    agree_is = er ∙ agree_layouts s t l x reads
 
-  module _ (l : Layout) (a : rd ≡ reading.Accepted l) (y : TableReading) (ey : table_reading_means t y ≡ shape_answer t) where
-    reads : read_answer s ≡ accepted l
-    reads = read_accepted s rd e l a
+    pub both_agree : r ≡ true → Agreed s l t x
+    both_agree f = record { reads = reads; shape = shape; agrees = sym agree_is ∙ f }
 
-    module _ (x : Refusal) (f : y ≡ table.Refused x) where
+  module _ (ps out : List ℕ) where
+    module _ (x : Refusal) (f : y ≡ Err x) where
       shapeless : posting s t ps out ≡ refused (number_of x)
       unfolding post_answer on_accepted
-      shapeless = let z : shape_answer t ≡ refused (number_of x) = sym ey ∙ ap (table_reading_means t) f in rw (reads, z)
+      shapeless = let z : shape_answer t ≡ refused (number_of x) = sym ey ∙ ap (answer_by (table_at t)) f in rw (reads, z)
 
-      pub shapeless_answer : {n : ℕ} → n ≡ number_of x → refused n ≡ written_of s (posting s t ps out)
-      shapeless_answer g = rw g (refused_answer s _ _ shapeless)
+      pub shapeless_answer : refused (number_of x) ≡ written_of s (posting s t ps out)
+      shapeless_answer = refused_answer s _ _ shapeless
 
       pub shapeless_output : out ≡ output_posted s (posting s t ps out) out
       shapeless_output = refused_output s _ _ shapeless out
 
-    module _ (x : TableLayout) (b : y ≡ table.Accepted x) {r : Bool} (er : r ≡ layouts_agree l x) where
-      shape : shape_answer t ≡ accepted (table_at t x)
-      shape = sym ey ∙ ap (table_reading_means t) b
-
-      other_is : not r ≡ true → posting s t ps out ≡ refused 21
+    module _ (x : TableLayout) (b : y ≡ Ok x) {r : Bool} (er : r ≡ layouts_agree l x) where
+      other_is : r ≡ false → posting s t ps out ≡ refused 21
       unfolding post_answer on_accepted
-      other_is f = rw (reads, shape) (check_failed _ 21 _ (sym (agree_layouts s t l x reads) ∙ failed er f))
+      other_is f = rw (reads, shape x b er) (check_failed _ 21 _ (sym (agree_is x b er) ∙ f))
 
-      pub other_answer : {n : ℕ} → not r ≡ true → n ≡ 21 → refused n ≡ written_of s (posting s t ps out)
-      other_answer f q = rw q (refused_answer s _ 21 (other_is f))
+      pub other_answer : r ≡ false → refused 21 ≡ written_of s (posting s t ps out)
+      other_answer f = refused_answer s _ 21 (other_is f)
 
-      pub other_output : not r ≡ true → out ≡ output_posted s (posting s t ps out) out
+      pub other_output : r ≡ false → out ≡ output_posted s (posting s t ps out) out
       other_output f = refused_output s _ 21 (other_is f) out
 
-      pub both_agree : not r ≡ false → Agreed s l t x
-      both_agree f = record { reads = reads; shape = shape; agrees = sym (agree_layouts s t l x reads) ∙ passed er f }
+module _ (s t ps out : List ℕ) (rd : Result Layout Refusal) (e : answer_of rd ≡ read_answer s) (x : Refusal) (f : rd ≡ Err x) where
+  unread : posting s t ps out ≡ refused (number_of x)
+  unfolding post_answer on_accepted
+  unread = rw (read_refused s rd e x f)
+
+  pub unread_answer : refused (number_of x) ≡ written_of s (posting s t ps out)
+  unread_answer = refused_answer s _ _ unread
+
+  pub unread_output : out ≡ output_posted s (posting s t ps out) out
+  unread_output = refused_output s _ _ unread out
 
 pub ruleset posted =
-    (rules, unread_answer, unread_output, shapeless_answer, shapeless_output, other_answer, other_output, both_agree)
+    (rules, unread_answer, shapeless_answer, other_answer, other_output, both_agree, absent_answer, absent_output, sizes_fit, short_answer, short_output)

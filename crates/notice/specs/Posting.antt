@@ -12,7 +12,7 @@ use Rattle.table.specs.TableSheet.{bytes_below, shape_answer, some_flagged}
 use Rattle.judge.specs.Judging.{sheets_agree}
 use Rattle.writer.specs.SheetBytes.{table_sheet}
 use Rattle.notice.specs.declared.posting.Posting.{Posting}
-use Rattle.notice.specs.declared.posting.Posting.TheVariants.{Posted, Emptied, Refused}
+use Rattle.notice.specs.declared.posting.Posting.TheVariants.{Posted, Emptied}
 
 -- the table sheet of a game sheet's game with this table
 abbrev pub sheet_with : List ℕ → Table → List ℕ
@@ -56,8 +56,7 @@ posted_answer s t ps out = written_of s (posting s t ps out)
 abbrev pub posted_output : List ℕ → List ℕ → List ℕ → List ℕ → List ℕ
 posted_output s t ps out = output_posted s (posting s t ps out) out
 
--- the numbers and values for every case of the code's answer
-abbrev pub posting_means : Posting → Answer Written
-posting_means (Posted n) = accepted (record { remains = true; size = n })
-posting_means (Emptied n) = accepted (record { remains = false; size = n })
-posting_means (Refused n) = refused n
+-- the value for every case of the code's posting; `answer_by` has document 01's numbers for a refused one
+abbrev pub written_by : Posting → Written
+written_by (Posted n) = record { remains = true; size = n }
+written_by (Emptied n) = record { remains = false; size = n }

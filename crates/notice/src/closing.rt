@@ -2,62 +2,52 @@
 ghost use Rattle.std.specs.Prelude.{◌≡◌, ◌≤◌, length};
 ghost use Rattle.theory.specs.Closing.{listed};
 ghost use Rattle.table.specs.TableSheet.{bytes_below};
-ghost use Rattle.notice.specs.code.Closed.{closed_byte, closed_at, closed_after};
+ghost use Rattle.notice.specs.code.Closed.{closed_byte, closed_after};
 
-use sheet::form::{byte, wide};
+use reader::reading::Layout;
 
-pub(crate) fn is_listed(notice: &[u8], q: usize) -> bool
-    ensures { result ≡ listed notice.now q }
-{
-    for i in 0..notice.len() {
-        if wide(notice[i]) == q {
-            return true;
-        }
-    }
-    false
-}
-
-// Check 23: is every position of the notice below their number?
-pub(crate) fn all_exist(notice: &[u8], positions: usize) -> bool
-    ensures { result ≡ bytes_below positions notice.now }
-{
-    for i in 0..notice.len() {
-        if positions <= wide(notice[i]) {
-            return false;
-        }
-    }
-    true
+// A notice on a game sheet that was read.
+#[derive(Clone, Copy)]
+pub struct Notice<'a> {
+    pub sheet: &'a [u8],
+    pub layout: Layout,
+    pub positions: &'a [u8],
 }
 
 // The P byte of a closed position: as it is where it is unsafe already.
+#[tactic(auto, unfolding(crate::specs::code::Closed::closed_byte))]
 fn closed_byte(b: u8) -> u8
     ensures { result ≡ closed_byte b }
 {
-    if b == 0 {
-        return 1;
+    match b {
+        0 => 1,
+        2 => 3,
+        _ => b,
     }
-    if b == 2 {
-        return 3;
-    }
-    b
 }
 
-fn closed_at(p: &[u8], notice: &[u8], q: usize) -> u8
-    ensures { result ≡ closed_at p.now notice.now q }
-{
-    let b = byte(p, q);
-    if is_listed(notice, q) {
-        return closed_byte(b);
+impl Notice<'_> {
+    pub(crate) fn closes(&self, q: usize) -> bool
+        ensures { result ≡ listed self.now.positions.now q }
+    {
+        self.positions.iter().any(|&x| usize::from(x) == q)
     }
-    b
-}
 
-// The P body with the notice's positions closed, at the front of a lent buffer.
-pub(crate) fn fill_closed(p: &[u8], notice: &[u8], to: &mut [u8])
-    requires { length p.now ≤ length to.old }
-    ensures { to.new ≡ closed_after p.now notice.now to.old }
-{
-    for q in 0..p.len() {
-        to[q] = closed_at(p, notice, q);
+    // Check 23: is every position below their number?
+    pub(crate) fn all_exist(&self) -> bool
+        ensures { result ≡ bytes_below self.now.layout.positions.size self.now.positions.now }
+    {
+        let n = self.layout.positions.size;
+        self.positions.iter().all(|&q| usize::from(q) < n)
+    }
+
+    // A P body with the positions closed, at the front of a lent buffer.
+    pub(crate) fn fill_closed(&self, p: &[u8], to: &mut [u8])
+        requires { length p.now ≤ length to.old }
+        ensures { to.new ≡ closed_after p.now self.now.positions.now to.old }
+    {
+        for (q, &b) in p.iter().enumerate() {
+            to[q] = if self.closes(q) { closed_byte(b) } else { b };
+        }
     }
 }

@@ -11,49 +11,56 @@ ghost use Rattle.reader.specs.Reading.{read_answer};
 ghost use Rattle.notice.specs.code.Closed.{closed_body};
 ghost use Rattle.notice.specs.code.Left.{PrunedIn, left_of};
 
-use crate::closing::fill_closed;
+use crate::closing::Notice;
 use prune::prune::prune;
 use reader::arrays::grid_at;
-use reader::reading::Layout;
 use sheet::form::part;
 use sheet::limits::MOST_POSITIONS;
 use sheet::moves::first_lines;
+use walk::arena::Arena;
 use walk::level::level_at;
 
-// Pruned over the arrays of a sheet that was read, p being its P body or one with more positions closed.
-fn prune_arrays(sheet: &[u8], l: Layout, p: &[u8], masks: &mut [u8])
-    ensures { PrunedIn sheet.now l p.now masks.old masks.new }
-{
-    let moves = l.moves;
-    let u = part(sheet, moves);
-    let grid = grid_at(sheet, l);
-    let firsts = first_lines(u);
-    let level = level_at(p.len(), l.start, l.actions, l.delay);
-    prune(p, &grid, u, &firsts, level, masks);
-}
+impl Notice<'_> {
+    // Pruned over the arrays of the sheet, p being its P body or one with more positions closed.
+    fn prune_at(&self, p: &[u8], masks: &mut [u8])
+        ensures { PrunedIn self.now.sheet.now self.now.layout p.now masks.old masks.new }
+    {
+        let l = self.layout;
+        let u = part(self.sheet, l.moves);
+        let grid = grid_at(self.sheet, l);
+        let firsts = first_lines(u);
+        let arena = Arena {
+            positions: p,
+            grid: &grid,
+            moves: u,
+            firsts: &firsts,
+            level: level_at(p.len(), l.start, l.actions, l.delay),
+        };
+        prune(&arena, masks);
+    }
 
-// The same with the notice's positions closed.
-fn prune_closed(sheet: &[u8], l: Layout, notice: &[u8], masks: &mut [u8])
-    requires { read_answer sheet.now ≡ accepted l }
-    ensures { PrunedIn sheet.now l (closed_body (part_at sheet.now l.positions) notice.now)
-        masks.old masks.new }
-{
-    let positions = l.positions;
-    let p = part(sheet, positions);
-    let n = p.len();
-    let mut closed = [0u8; MOST_POSITIONS];
-    fill_closed(p, notice, &mut closed);
-    prune_arrays(sheet, l, &closed[..n], masks);
-}
+    // The same with the notice's positions closed.
+    fn prune_closed(&self, masks: &mut [u8])
+        requires { read_answer self.now.sheet.now ≡ accepted self.now.layout }
+        ensures { PrunedIn self.now.sheet.now self.now.layout
+            (closed_body (part_at self.now.sheet.now self.now.layout.positions) self.now.positions.now) masks.old masks.new }
+    {
+        let p = part(self.sheet, self.layout.positions);
+        let mut closed = [0u8; MOST_POSITIONS];
+        self.fill_closed(p, &mut closed);
+        self.prune_at(&closed[..p.len()], masks);
+    }
 
-// What the notice leaves of the masks of a table that fits the sheet, at the front of a lent buffer.
-pub(crate) fn left_masks(sheet: &[u8], l: Layout, notice: &[u8], masks: &[u8], left: &mut [u8])
-    requires { (read_answer sheet.now ≡ accepted l) × (SizedMasks (arena (game_of sheet.now) (delay_of sheet.now)) masks.now)
-        × (most_nodes ≤ length left.old) }
-    ensures { take (length masks.now) left.new
-        ≡ (left_of sheet.now notice.now [] masks.now).masks }
-{
-    let front = &mut left[..masks.len()];
-    front.copy_from_slice(masks);
-    prune_closed(sheet, l, notice, front);
+    // What the notice leaves of the masks of a table that fits the sheet, at the front of a lent buffer.
+    pub(crate) fn left_masks(&self, masks: &[u8], left: &mut [u8])
+        requires { (read_answer self.now.sheet.now ≡ accepted self.now.layout)
+            × (SizedMasks (arena (game_of self.now.sheet.now) (delay_of self.now.sheet.now)) masks.now)
+            × (most_nodes ≤ length left.old) }
+        ensures { take (length masks.now) left.new
+            ≡ (left_of self.now.sheet.now self.now.positions.now [] masks.now).masks }
+    {
+        let front = &mut left[..masks.len()];
+        front.copy_from_slice(masks);
+        self.prune_closed(front);
+    }
 }

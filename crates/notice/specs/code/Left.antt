@@ -1,7 +1,7 @@
 -- What a notice leaves of a table, in the code's own buffers. Assumes nothing.
 use Rattle.std.specs.Prelude.{ℕ, ◌≤◌, ◌≡◌, Bool, true, not, cond, List, [], ◌∷◌, eqb, length, get_or, replicate}
 use Rattle.theory.specs.Fold.{both, tabulate}
-use Rattle.theory.specs.Answer.{Answer, accepted}
+use Rattle.theory.specs.Answer.{accepted}
 use Rattle.theory.specs.Buffer.{over}
 use Rattle.theory.specs.Delay.{odd}
 use Rattle.theory.specs.Table.{Table, TableFits}
@@ -72,14 +72,13 @@ pub record Postable (s : List ℕ) (l : Layout) (x : TableLayout) (flags masks :
   pub room_enough : length (table_bytes (numbers_of x) flags masks) ≤ room
 
 -- what is answered where a sheet of so many bytes with these flags was written
-abbrev pub written_with : List ℕ → ℕ → Answer Written
-written_with flags size = accepted (record { remains = some_flagged (table_with flags []); size = size })
+abbrev pub written_with : List ℕ → ℕ → Written
+written_with flags size = record { remains = some_flagged (table_with flags []); size = size }
 
--- the answer once every check has passed
-abbrev pub written_left : List ℕ → List ℕ → List ℕ → List ℕ → Answer Written
+-- and once every check has passed
+abbrev pub written_left : List ℕ → List ℕ → List ℕ → List ℕ → Written
 written_left s ps flags masks =
-    accepted
-    (record {
+    record {
       remains = some_flagged (left_of s ps flags masks);
       size = length (sheet_with s (left_of s ps flags masks));
-    })
+    }

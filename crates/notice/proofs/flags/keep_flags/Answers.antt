@@ -5,9 +5,6 @@ use Rattle.notice.proofs.flags.keep_flags.Goals as goal
 pub loop-v-init : goal.loop-v-init
 loop-v-init c = search keeping
 
-pub kept_flag-requires : goal.kept_flag-requires
-kept_flag-requires c = search keeping
-
 pub loop-v-preserved : goal.loop-v-preserved
 loop-v-preserved c = search keeping
 

@@ -1,36 +1,56 @@
 -- `post` meets its contract. Assumes nothing.
-use Rattle.notice.proofs.PostLaws.{posted}
+use native.Mathlib.Omega.{arith}
+use Rattle.notice.proofs.PostLaws.{both_agree, postable, taken_answer, taken_output, unread_output, shapeless_answer, shapeless_output, posted}
 use Rattle.notice.proofs.posting.post.Goals as goal
 
-pub read-reading-requires : goal.read-reading-requires
-read-reading-requires c = search posted
+pub returns-in_err-layout-clause-answer : goal.returns-in_err-layout-clause-answer
+returns-in_err-layout-clause-answer c = search posted
 
-pub refusal_number-requires : goal.refusal_number-requires
-refusal_number-requires c = search posted
+pub returns-in_err-layout-clause-output : goal.returns-in_err-layout-clause-output
+returns-in_err-layout-clause-output c =
+    unread_output _ _ _ _ _ c.read.ensures _ c.in_err-layout.was
 
-pub returns-in_default : goal.returns-in_default
-returns-in_default c = search posted
+pub returns-in_err-x-clause-answer : goal.returns-in_err-x-clause-answer
+returns-in_err-x-clause-answer c =
+    let h = shapeless_answer _ _ _ c.read.ensures _ c.in_ok-layout.was _ c.read_shape.ensures c.args.notice.now c.args.out.now _ c.in_err-x.was in
+    grind (arith, h)
 
-pub read_shape-requires : goal.read_shape-requires
-read_shape-requires c = search posted
+pub returns-in_err-x-clause-output : goal.returns-in_err-x-clause-output
+returns-in_err-x-clause-output c =
+    shapeless_output _ _ _ c.read.ensures _ c.in_ok-layout.was _ c.read_shape.ensures _ _ _ c.in_err-x.was
 
-pub number-requires : goal.number-requires
-number-requires c = search posted
+pub returns-then-not-layouts_agree-clause-answer : goal.returns-then-not-layouts_agree-clause-answer
+returns-then-not-layouts_agree-clause-answer c = search posted
 
-pub layouts_agree-requires : goal.layouts_agree-requires
-layouts_agree-requires c = search posted
+pub returns-then-not-layouts_agree-clause-output : goal.returns-then-not-layouts_agree-clause-output
+returns-then-not-layouts_agree-clause-output c = search posted
 
-pub number-requires-then-not-layouts_agree : goal.number-requires-then-not-layouts_agree
-number-requires-then-not-layouts_agree c = search posted
+pub returns-then-not-all_exist-clause-answer : goal.returns-then-not-all_exist-clause-answer
+returns-then-not-all_exist-clause-answer c = search posted
 
-pub returns-then-not-layouts_agree : goal.returns-then-not-layouts_agree
-returns-then-not-layouts_agree c = search posted
+pub returns-then-not-all_exist-clause-output : goal.returns-then-not-all_exist-clause-output
+returns-then-not-all_exist-clause-output c = search posted
 
-pub post_agreed-requires : goal.post_agreed-requires
-post_agreed-requires c = search posted
+pub overflow_add-flags-2 : goal.overflow_add-flags-2
+overflow_add-flags-2 c = search posted
 
-pub returns-in-Refused : goal.returns-in-Refused
-returns-in-Refused c = search posted
+pub returns-then-out-flags-clause-answer : goal.returns-then-out-flags-clause-answer
+returns-then-out-flags-clause-answer c = search posted
 
-pub returns-else-not-layouts_agree : goal.returns-else-not-layouts_agree
-returns-else-not-layouts_agree c = search posted
+pub returns-then-out-flags-clause-output : goal.returns-then-out-flags-clause-output
+returns-then-out-flags-clause-output c = search posted
+
+pub post_bodies-requires : goal.post_bodies-requires
+post_bodies-requires c =
+    let both = both_agree _ _ _ c.read.ensures _ c.in_ok-layout.was _ c.read_shape.ensures _ c.in_ok-x.was c.layouts_agree.ensures c.if-not-layouts_agree.false in
+    postable _ _ _ _ _ _ both c.all_exist.ensures c.if-not-all_exist.false _ _ c.part-flags.ensures c.part-masks.ensures c.if-out-flags.false
+
+pub returns-clause-answer : goal.returns-clause-answer
+returns-clause-answer c =
+    let both = both_agree _ _ _ c.read.ensures _ c.in_ok-layout.was _ c.read_shape.ensures _ c.in_ok-x.was c.layouts_agree.ensures c.if-not-layouts_agree.false in
+    taken_answer _ _ _ _ _ _ both c.all_exist.ensures c.if-not-all_exist.false _ _ c.part-flags.ensures c.part-masks.ensures c.if-out-flags.false c.post_bodies.ensures.0
+
+pub returns-clause-output : goal.returns-clause-output
+returns-clause-output c =
+    let both = both_agree _ _ _ c.read.ensures _ c.in_ok-layout.was _ c.read_shape.ensures _ c.in_ok-x.was c.layouts_agree.ensures c.if-not-layouts_agree.false in
+    taken_output _ _ _ _ _ _ both c.all_exist.ensures c.if-not-all_exist.false _ _ c.part-flags.ensures c.part-masks.ensures c.if-out-flags.false c.post_bodies.ensures.1
