@@ -5,7 +5,6 @@ use mathlib.Core.Path.{◌≡◌, refl, sym, ◌∙◌, ap}
 use mathlib.Core.List.{List}
 use native.Mathlib.Omega.{arith}
 use lib.ListN.{length, take}
-use borrow.Author.Rules.{rules}
 use borrow.Author.Tests.{le-leb}
 use Rattle.theory.specs.Answer.{accepted, on_accepted}
 use Rattle.theory.specs.Buffer.{over}
@@ -26,7 +25,11 @@ use Rattle.reader.specs.declared.reading.Layout.{Layout}
 use Rattle.reader.proofs.Accepted.{carries}
 use Rattle.text.specs.Page.{page, puts}
 use Rattle.text.proofs.Page.{written}
-use Rattle.solver.specs.Solving.{solve_answer, solved_delay, masks_left, ranks_left, solution_means}
+use Rattle.solver.specs.Solving.{solve_answer, solved_delay, masks_left, ranks_left, solved_by}
+use Rattle.std.specs.Prelude.{Result, Ok, Err}
+use Rattle.sheet.specs.Refusals.{answer_by}
+use Rattle.sheet.specs.declared.refusal.Refusal.{Refusal}
+use Rattle.sheet.proofs.RefusalLaws.{by_accepted, by_refused}
 use Rattle.solver.specs.declared.solve.Solution.{Solution}
 use Rattle.solver.specs.declared.solve.Solution.TheVariants as solution
 use Rattle.writer.specs.SheetBytes.{rank_bytes, rank_sheet}
@@ -66,7 +69,7 @@ module _ (s : List ℕ) (l : Layout) (M R O : List ℕ) (ready : Ready s l (leng
   ranged : Ranged G d
   ranged = sheet_ranged s l ready.reads
 
-  pub ready_small : Small l
+  ready_small : Small l
   ready_small = small s l ready.reads
 
   solve_is : solve_answer s (length M) (length R) ≡ accepted (record { verdict = answer G d; layout = l })
@@ -88,7 +91,7 @@ module _ (s : List ℕ) (l : Layout) (M R O : List ℕ) (ready : Ready s l (leng
   made_fits (losing m) e = omega (arith, ranks_fit G ranged.legal m d (early m e), ready.output_room)
 
   -- y is the solver's answer, M' and R' what it left in the buffers
-  module _ (y : Solution) (ey : solution_means y ≡ solve_answer s (length M) (length R)) (M' R' : List ℕ)
+  module _ (y : Result Solution Refusal) (ey : answer_by solved_by y ≡ solve_answer s (length M) (length R)) (M' R' : List ℕ)
       (em : M' ≡ masks_left s (solve_answer s (length M) (length R)) M) (er : R' ≡ ranks_left s (solve_answer s (length M) (length R)) R) where
     masks_over : M' ≡ over (masks (arena G (solved_delay d (answer G d)))) M
     unfolding masks_left
@@ -126,9 +129,9 @@ module _ (s : List ℕ) (l : Layout) (M R O : List ℕ) (ready : Ready s l (leng
         }
 
     -- winning
-    module _ (x : Layout) (ex : y ≡ solution.Winning x) where
+    module _ (v : Solution) (o : y ≡ Ok v) (x : Layout) (ex : v ≡ solution.Winning x) where
       verdict_wins : answer G d ≡ wins
-      verdict_wins = ap (λ a. a.verdict) (accepted_same (sym solve_is ∙ sym ey ∙ ap solution_means ex))
+      verdict_wins = ap (λ a. a.verdict) (accepted_same (sym solve_is ∙ by_accepted solved_by y _ ey v o ∙ ap (λ u. accepted (solved_by u)) ex))
 
       pub has_table : HasTable s l M' R'
       unfolding solved_delay
@@ -144,25 +147,29 @@ module _ (s : List ℕ) (l : Layout) (M R O : List ℕ) (ready : Ready s l (leng
       makes_won = makes wins verdict_wins
 
     -- losing m
-    module _ (m : ℕ) (x : Layout) (ex : y ≡ solution.Losing m x) where
+    module _ (v : Solution) (o : y ≡ Ok v) (m : ℕ) (x : Layout) (ex : v ≡ solution.Losing m x) where
       verdict_loses : answer G d ≡ losing m
-      verdict_loses = ap (λ a. a.verdict) (accepted_same (sym solve_is ∙ sym ey ∙ ap solution_means ex))
+      verdict_loses = ap (λ a. a.verdict) (accepted_same (sym solve_is ∙ by_accepted solved_by y _ ey v o ∙ ap (λ u. accepted (solved_by u)) ex))
 
       nodes : nodes_at l m ≡ (arena G m).nodes
       nodes = nodes_are s l ready.reads m
 
-      pub losing_short : m ≤ most_delay
+      losing_short : m ≤ most_delay
       losing_short = omega (arith, early m verdict_loses, ranged.short_delay)
 
-      pub losing_few : nodes_at l m ≤ most_nodes
+      losing_few : nodes_at l m ≤ most_nodes
       losing_few = rw nodes (omega (arith, nodes_more G ranged.legal m d (early m verdict_loses), ranged.few_nodes))
 
       ranks_are : R' ≡ over (final_ranks (arena G m)) R
       unfolding solved_delay
       ranks_are = ranks_over ∙ rw verdict_loses
 
-      pub losing_inside : nodes_at l m ≤ length R'
+      losing_inside : nodes_at l m ≤ length R'
       losing_inside = rw (ranks_are, nodes) (omega (arith, final_length (arena G m), over_room (final_ranks (arena G m)) R))
+
+      -- so the rank sheet can be written
+      pub loses : Small l × (m ≤ most_delay) × (nodes_at l m ≤ most_nodes) × (nodes_at l m ≤ length R')
+      loses = (ready_small, losing_short, losing_few, losing_inside)
 
       losing_bytes : rank_bytes (header_bytes l m) (take (nodes_at l m) R') ≡ rank_sheet_of G m
       unfolding rank_sheet_of rank_sheet
@@ -176,7 +183,5 @@ module _ (s : List ℕ) (l : Layout) (M R O : List ℕ) (ready : Ready s l (leng
       makes_lost O' n eo = makes (losing m) verdict_loses O' n (eo ∙ ap (puts (page O 0)) losing_bytes)
 
     -- solving does not refuse what was read and has room
-    pub no_refusal : {A : Type 0} (n : ℕ) → y ≡ solution.Refused n → A
-    no_refusal n ex = absurd (refused_not_accepted (sym (ap solution_means ex) ∙ ey ∙ solve_is))
-
-pub ruleset solved = (rules, ready_small, has_table, losing_short, losing_few, losing_inside)
+    pub no_refusal : {A : Type 0} (x : Refusal) → y ≡ Err x → A
+    no_refusal x ex = absurd (refused_not_accepted (sym (by_refused solved_by y _ ey x ex) ∙ solve_is))

@@ -13,7 +13,7 @@ use Rattle.sheet.specs.SheetGame.{game_of}
 use Rattle.solver.specs.Solving.{solve_answer, masks_solved, ranks_solved}
 use Rattle.writer.specs.SheetBytes.{table_sheet, rank_sheet}
 use Rattle.maker.specs.declared.making.Making.{Making}
-use Rattle.maker.specs.declared.making.Making.TheVariants.{Winning, Losing, Refused}
+use Rattle.maker.specs.declared.making.Making.TheVariants.{Winning, Losing}
 
 -- the winning sheet: the game's own table
 unfoldable pub table_sheet_of : Game → ℕ → List ℕ
@@ -85,8 +85,7 @@ measured k a = on_accepted a (λ x. accepted (measure_of k x))
 abbrev pub made_answer : List ℕ → List ℕ → List ℕ → List ℕ → Answer Measured
 made_answer s masks ranks out = measured (reached (game_of s)) (making s masks ranks out)
 
--- document 01's number and values for every case of the code's answer
-abbrev pub making_means : Making → Answer Measured
-making_means (Winning n k) = accepted (record { verdict = wins; size = n; reached = k })
-making_means (Losing m n k) = accepted (record { verdict = losing m; size = n; reached = k })
-making_means (Refused n) = refused n
+-- document 01's values for every case of what the code made
+abbrev pub measured_by : Making → Measured
+measured_by (Winning n k) = record { verdict = wins; size = n; reached = k }
+measured_by (Losing m n k) = record { verdict = losing m; size = n; reached = k }

@@ -2,14 +2,15 @@
 ghost use Rattle.std.specs.Prelude.{◌≡◌, ◌≤◌, length, take};
 ghost use Rattle.sheet.specs.Limits.{most_delay, most_nodes, most_words};
 ghost use Rattle.sheet.specs.Bodies.{delay_of};
+ghost use Rattle.sheet.specs.Refusals.{answer_of, answer_by};
 ghost use Rattle.sheet.specs.SheetGame.{game_of};
 ghost use Rattle.text.specs.Page.{Writes};
 ghost use Rattle.solver.specs.Solving.{masks_solved, ranks_solved};
 ghost use Rattle.writer.specs.SheetBytes.{rank_bytes};
-ghost use Rattle.maker.specs.Making.{table_sheet_of, making_means, made_answer, masks_made, ranks_made, output_made};
-ghost use Rattle.maker.specs.code.Checked.{Small, nodes_at, words_at, header_bytes, short_of, Ready, HasTable};
+ghost use Rattle.maker.specs.Making.{table_sheet_of, measured_by, made_answer, masks_made, ranks_made, output_made};
+ghost use Rattle.maker.specs.code.Checked.{Small, nodes_at, words_at, header_bytes, room_answer, Ready, HasTable};
 
-use reader::reading::{Layout, Reading, read};
+use reader::reading::{Layout, read};
 use region::words::initial_flags;
 use sheet::limits::MOST_WORDS;
 use sheet::refusal::Refusal;
@@ -18,7 +19,7 @@ use solver::solve::{Solution, solve};
 use writer::writing::{TABLE_START, put_rank_sheet, put_table_sheet};
 
 // The length of the sheet that was written and the number of reached positions, with the losing delay where it is a rank sheet.
-#[derive(Clone, Copy)]
+#[derive(Clone, Copy, Debug, PartialEq, Eq)]
 pub enum Making {
     Winning {
         size: usize,
@@ -29,26 +30,22 @@ pub enum Making {
         size: usize,
         reached: usize,
     },
-    Refused(u8),
 }
 
-// Checks 8 and 9: the refusal's number, 0 where both pass.
-fn short_buffer(l: Layout, masks: usize, ranks: usize, out: usize) -> u8
+// Checks 8 and 9.
+fn check_room(l: Layout, masks: usize, ranks: usize, out: usize) -> Result<(), Refusal>
     requires { Small l }
-    ensures { result ≡ short_of (nodes_at l l.delay) (words_at l) masks ranks out }
+    ensures { answer_of result ≡ room_answer (nodes_at l l.delay) (words_at l) masks ranks out }
 {
     let positions = l.positions;
     let nodes = nodes_at(positions.size as u16, l.actions, l.delay);
-    if masks < nodes {
-        return Refusal::Buffers.number();
-    }
-    if ranks < nodes {
-        return Refusal::Buffers.number();
+    if masks.min(ranks) < nodes {
+        return Err(Refusal::Buffers);
     }
     if out < TABLE_START + words_at(l.actions, l.delay) + 2 * nodes {
-        return Refusal::Output.number();
+        return Err(Refusal::Output);
     }
-    0
+    Ok(())
 }
 
 // The S body at delay m.
@@ -89,33 +86,48 @@ fn write_table(sheet: &[u8], l: Layout, masks: &[u8], ranks: &[u16], out: &mut [
 }
 
 // Solving and writing, once every check has passed.
-fn make_read(sheet: &[u8], l: Layout, masks: &mut [u8], ranks: &mut [u16], out: &mut [u8]) -> Making
+fn make_read(
+    sheet: &[u8],
+    l: Layout,
+    masks: &mut [u8],
+    ranks: &mut [u16],
+    out: &mut [u8],
+) -> Result<Making, Refusal>
     requires { Ready sheet.now l (length masks.old) (length ranks.old) (length out.old) }
-    ensures answer { making_means result
+    ensures answer { answer_by measured_by result
         ≡ made_answer sheet.now masks.old ranks.old out.old }
     ensures masks { masks.new ≡ masks_solved sheet.now masks.old ranks.old }
     ensures ranks { ranks.new ≡ ranks_solved sheet.now masks.old ranks.old }
     ensures output { out.new
         ≡ output_made sheet.now masks.old ranks.old out.old }
 {
-    let solution = solve(sheet, masks, ranks);
+    let solution = solve(sheet, masks, ranks)?;
+    let reached = l.reached;
     match solution {
-        Solution::Winning(_) => Making::Winning {
-            size: write_table(sheet, l, masks, ranks, out),
-            reached: l.reached,
-        },
-        Solution::Losing(m, _) => Making::Losing {
-            delay: m,
-            size: write_ranks(l, m, ranks, out),
-            reached: l.reached,
-        },
-        Solution::Refused(n) => Making::Refused(n),
+        Solution::Winning(_) => {
+            let size = write_table(sheet, l, masks, ranks, out);
+            Ok(Making::Winning { size, reached })
+        }
+        Solution::Losing(delay, _) => {
+            let size = write_ranks(l, delay, ranks, out);
+            Ok(Making::Losing {
+                delay,
+                size,
+                reached,
+            })
+        }
     }
 }
 
-// Making: the answer, the areas as in solving, and the sheet in `out`.
-pub fn make(sheet: &[u8], masks: &mut [u8], ranks: &mut [u16], out: &mut [u8]) -> Making
-    ensures answer { making_means result
+// Making: the answer, the areas as in solving, and the sheet in `out`. Document 01 has the reading taken apart with let else, and
+// its refusal handed straight on.
+pub fn make(
+    sheet: &[u8],
+    masks: &mut [u8],
+    ranks: &mut [u16],
+    out: &mut [u8],
+) -> Result<Making, Refusal>
+    ensures answer { answer_by measured_by result
         ≡ made_answer sheet.now masks.old ranks.old out.old }
     ensures masks { masks.new
         ≡ masks_made sheet.now masks.old ranks.old out.old }
@@ -125,12 +137,9 @@ pub fn make(sheet: &[u8], masks: &mut [u8], ranks: &mut [u16], out: &mut [u8]) -
         ≡ output_made sheet.now masks.old ranks.old out.old }
 {
     let reading = read(sheet);
-    let Reading::Accepted(l) = reading else {
-        return Making::Refused(reading.refusal_number());
+    let Ok(l) = reading else {
+        return Err(reading.unwrap_err());
     };
-    let refused = short_buffer(l, masks.len(), ranks.len(), out.len());
-    if refused != 0 {
-        return Making::Refused(refused);
-    }
+    check_room(l, masks.len(), ranks.len(), out.len())?;
     make_read(sheet, l, masks, ranks, out)
 }

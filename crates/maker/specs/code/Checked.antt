@@ -1,7 +1,7 @@
 -- Checks 8 and 9 in the code's own numbers, and what is known of the sheet and the buffers once checks have passed. Assumes nothing.
-use Rattle.std.specs.Prelude.{ℕ, ◌+◌, ◌-◌, ◌*◌, ◌^◌, ◌≤◌, ◌≡◌, cond, List, [], ◌∷◌, leb, take}
+use Rattle.std.specs.Prelude.{ℕ, ◌+◌, ◌-◌, ◌*◌, ◌^◌, ◌≤◌, ◌≡◌, List, [], ◌∷◌, leb, take}
 use Rattle.theory.specs.Fold.{both}
-use Rattle.theory.specs.Answer.{accepted}
+use Rattle.theory.specs.Answer.{Answer, accepted, check}
 use Rattle.theory.specs.Strategy.{initial_length}
 use Rattle.theory.specs.Rounds.{masks, final_ranks}
 use Rattle.theory.specs.Delay.{arena}
@@ -31,10 +31,11 @@ words_at l = l.actions ^ initial_length l.delay
 unfoldable pub header_bytes : Layout → ℕ → List ℕ
 header_bytes l m = l.start ∷ l.actions ∷ m ∷ (l.positions.size - 1) ∷ []
 
--- the number of the refusal where a buffer is too short for so many nodes and first words, 8 before 9; 0 where none is
-unfoldable pub short_of : ℕ → ℕ → ℕ → ℕ → ℕ → ℕ
-short_of nodes words masks_length ranks_length output_length =
-    cond (both (leb nodes masks_length) (leb nodes ranks_length)) (cond (leb (19 + words + 2 * nodes) output_length) 0 9) 8
+-- checks 8 and 9 of so many nodes and first words
+unfoldable pub room_answer : ℕ → ℕ → ℕ → ℕ → ℕ → Answer (Unit {0})
+room_answer nodes words masks_length ranks_length output_length =
+    check (both (leb nodes masks_length) (leb nodes ranks_length)) 8
+    (check (leb (19 + words + 2 * nodes) output_length) 9 (accepted tt))
 
 -- a game sheet that was read, and buffers with room for making from it
 pub record Ready (s : List ℕ) (l : Layout) (masks_length ranks_length output_length : ℕ) : Type 0 where
