@@ -1,32 +1,29 @@
 -- Good first words, as the code of src/words.rt finds them, and that they are theory's. Assumes nothing.
 use Prim.Native.Nat.{ℕ, ◌+◌, ◌*◌, ◌/◌, ◌%◌, ◌^◌, ◌≤◌, ◌<◌, suc}
 use mathlib.Core.Path.{◌≡◌, refl, sym, ◌∙◌, ap, fun_ext}
-use mathlib.Core.Bool.{Bool, true, false, not}
+use mathlib.Core.Bool.{Bool, true, false}
 use mathlib.Core.List.{List}
 use native.Mathlib.Omega.{arith}
 use native.Mathlib.Nat.{mul-le-mul, mod-lt, pow-suc}
 use mir.Val.{Fits}
 use mir.Syntax.{w64}
-use lib.Dec.{eqb}
-use lib.ListN.{length, get_or, get_or-eq_default}
+use lib.ListN.{length}
 use borrow.Author.Rules.{rules}
-use borrow.Author.Tests.{not-true, not-false, lt-ltb}
+use borrow.Author.Tests.{lt-ltb}
 use Rattle.theory.specs.Fold.{any_below}
 use Rattle.theory.specs.Game.{Game}
-use Rattle.theory.specs.Rounds.{fell, final_ranks, kept, kept_by}
-use Rattle.theory.specs.Delay.{odd, words, on_right, arena, kept_at, good_by, good_from, good_with, winning, initial_words}
-use Rattle.theory.proofs.Fold.{not_not, both_true, any_none, any_holds, any_again, any_done, both_none, both_second, bool}
-use Rattle.sheet.specs.Kinds.{safe_at, controller_at}
-use Rattle.sheet.specs.code.Arrays.{unmark, target_at, view_of, absent_mark}
+use Rattle.theory.specs.Rounds.{final_ranks, kept, kept_by}
+use Rattle.theory.specs.Delay.{odd, words, arena, good_by, good_from, good_with, winning, initial_words}
+use Rattle.theory.proofs.Fold.{any_none, any_holds, any_again, any_done, both_second, bool}
+use Rattle.sheet.specs.code.Arrays.{view_of}
 use Rattle.walk.specs.declared.level.Level.{Level}
 use Rattle.walk.specs.code.Levels.{arena_of}
 use Rattle.walk.specs.code.Nodes.{Sized}
 use Rattle.walk.proofs.Products.{product_small, product_fits, sum_fits}
-use Rattle.sheet.proofs.GridLaws.{unmark_absent, unmark_to}
 use Rattle.walk.specs.code.Levels.{level_at}
 use Rattle.region.specs.code.Kept.{on_side, moveless_game, good_in, words_on, first_words, some_good}
 use Rattle.walk.proofs.LevelLaws.{arena_is}
-use Rattle.walk.proofs.NodeLaws.{sized_tested, sized_level, test_fails, test_passes, bound_fails, bound_passes}
+use Rattle.walk.proofs.NodeLaws.{sized_tested}
 use Rattle.sheet.specs.Limits.{most_actions, most_nodes, most_positions}
 use Rattle.sheet.specs.code.Steps.{most_power}
 use mathlib.Core.Logic.{⊎_elim}
@@ -87,8 +84,6 @@ module _ (p : List ℕ) (g : List (List ℕ)) (l : Level) (ranks : List ℕ) whe
   good_word_lem e h = rw e at h
 
 pub ruleset searching = (rules, good_found, good_again, good_none, good_start, good_word_lem)
-
-pub ruleset guarded = (rules, sized_level, test_fails, test_passes, bound_fails, bound_passes)
 
 -- the same for any level (specs/code/Kept.antt, some_good): for those who know that the numbers are small
 

@@ -1,30 +1,27 @@
 -- The masks, as the code of src/masks.rt makes them. Assumes nothing.
 use Prim.Native.Nat.{ℕ, ◌+◌, ◌*◌, ◌%◌, ◌^◌, ◌≤◌, ◌<◌}
-use mathlib.Core.Path.{◌≡◌, refl, sym, ◌∙◌, ap}
-use mathlib.Core.Bool.{Bool, true, false, not, cond}
+use mathlib.Core.Path.{◌≡◌, sym, ◌∙◌, ap}
+use mathlib.Core.Bool.{Bool, true, false, not}
 use mathlib.Core.List.{List}
 use native.Mathlib.Omega.{arith}
 use native.Mathlib.Nat.{pow-suc, mod-eq_of_lt}
 use native.Mathlib.Numerals.{add-one}
 use mir.Val.{Fits, bits}
 use mir.Syntax.{Width}
-use lib.Dec.{ltb}
 use lib.Pow.{pow_mono, pow-lt}
-use lib.ListN.{length, set}
+use lib.ListN.{length}
 use borrow.Author.Rules.{rules}
-use borrow.Author.Tests.{not-true, not-false}
-use Rattle.theory.specs.Fold.{both, tabulate}
-use Rattle.theory.specs.Rounds.{Arena, spoilt_by, mask_below, kept_by}
-use Rattle.theory.proofs.Masks.{mask_first, mask_next, mask_done, mask_lt}
+use Rattle.theory.specs.Fold.{tabulate}
+use Rattle.theory.specs.Rounds.{Arena, spoilt_by, mask_below}
+use Rattle.theory.proofs.Masks.{mask_next, mask_done, mask_lt}
 use Rattle.walk.specs.declared.level.Level.{Level}
 use Rattle.walk.specs.code.Levels.{arena_of}
 use Rattle.sheet.specs.code.Arrays.{view_of}
-use Rattle.walk.specs.code.Nodes.{Sized, is_sized, is_node}
+use Rattle.walk.specs.code.Nodes.{Sized}
 use Rattle.walk.specs.code.Walks.{fallen_by, spoilt_answer}
-use Rattle.walk.proofs.NodeLaws.{at_action, sized_level, fitted, level_unfit, buffer_unfit}
+use Rattle.walk.proofs.NodeLaws.{at_action, fitted}
 use Rattle.theory.proofs.Filling.{filled, filled_none, filled_more, filled_done}
-use Rattle.region.specs.code.Kept.{on_side, allowed_in, mask_in, masks_in, masks_after}
-use Rattle.region.proofs.GoodLaws.{kept_is}
+use Rattle.region.specs.code.Kept.{allowed_in, mask_in, masks_in, masks_after}
 use Rattle.sheet.specs.Limits.{most_actions}
 
 -- the bit of action c, as code shifts it in a number of m values
@@ -70,16 +67,6 @@ module _ (p : List ℕ) (g : List (List ℕ)) (u f : List ℕ) (l : Level) (n : 
   unfolding allowed_in arena_of view_of
   allowed_done c {m} h j e = mask_done _ h j e
 
-  pub mask_lost : {r : Bool} → r ≡ kept_by (on_side p l) ranks k → not r ≡ true → 0 ≡ mask_in here n ranks k
-  unfolding mask_in
-  mask_lost {r} e x = rw (← kept_is p g u f l ranks k, ← e, not-true r x)
-
-  pub mask_stands : {r : Bool} {m : ℕ} → r ≡ kept_by (on_side p l) ranks k → not r ≡ false → m ≡ allowed_in here n ranks k → m ≡ mask_in here n ranks k
-  unfolding mask_in
-  mask_stands {r} {m} e x q = q ∙ rw (← kept_is p g u f l ranks k, ← e, not-false r x)
-
-pub ruleset a_mask = (rules, mask_lost, mask_stands)
-
 -- the loop over the nodes
 
 module _ (p : List ℕ) (g : List (List ℕ)) (u f : List ℕ) (l : Level) (n : ℕ) (ranks before : List ℕ) where
@@ -91,22 +78,9 @@ module _ (p : List ℕ) (g : List (List ℕ)) (u f : List ℕ) (l : Level) (n : 
   unfolding masks_in arena_of view_of
   masks_done k s e z h j = filled_done entry before k l.nodes e z h j ∙ ap (tabulate entry 0) s.all_nodes
 
-  -- for any level and buffer
-
-  pub masks_unsized : {r : Bool} → r ≡ is_sized (length p) l → not r ≡ true → before ≡ masks_after p g u f l n ranks before
-  masks_unsized e x = rw (level_unfit (length p) l (length before) e x)
-
-  pub masks_other : (length before ≡ l.nodes → ⊥) → before ≡ masks_after p g u f l n ranks before
-  masks_other x = rw (buffer_unfit (length p) l (length before) x)
-
-  module _ {m : List ℕ} (s : Sized (length p) l) (e : length before ≡ l.nodes) where
-    pub masks_fitted : m ≡ masks_in (arena_of p g u f l) n ranks → m ≡ masks_after p g u f l n ranks before
-    masks_fitted q = rw (fitted (length p) l (length before) s e) q
-
-    -- for those who know that both fit
-    pub masks_known : m ≡ masks_after p g u f l n ranks before → m ≡ masks_in (arena_of p g u f l) n ranks
-    masks_known q = rw (fitted (length p) l (length before) s e) at q
+  -- for those who know that level and buffer fit
+  pub masks_known : {m : List ℕ} → Sized (length p) l → length before ≡ l.nodes → m ≡ masks_after p g u f l n ranks before
+      → m ≡ masks_in (arena_of p g u f l) n ranks
+  masks_known s e q = rw (fitted (length p) l (length before) s e) at q
 
 pub ruleset all_masks = (rules, filled_none, filled_more, masks_done)
-
-pub ruleset any_buffer = (rules, sized_level, masks_unsized, masks_other, masks_fitted)

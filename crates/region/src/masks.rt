@@ -20,7 +20,7 @@ fn allowed(arena: &Arena, fallen: &Fallen, k: usize) -> u8
     mask
 }
 
-#[tactic(auto, using(crate::proofs::MaskLaws::a_mask))]
+#[tactic(auto, unfolding(crate::specs::code::Kept::mask_in, crate::specs::code::Kept::on_side, walk::specs::code::Levels::arena_of, sheet::specs::code::Arrays::view_of))]
 fn mask_of(arena: &Arena, fallen: &Fallen, k: usize) -> u8
     requires { (IsSized arena.now) × (k < arena.now.level.nodes) }
     ensures { result ≡ mask_in (arena_in arena.now) fallen.now.last fallen.now.marks.now k }
@@ -48,7 +48,7 @@ fn all_masks(arena: &Arena, fallen: &Fallen, masks: &mut [u8])
 }
 
 // The same for any level and buffer: nothing is done where the level is too large or the buffer has not one entry for each node.
-#[tactic(auto, using(crate::proofs::MaskLaws::any_buffer))]
+#[tactic(auto, unfolding(walk::specs::code::Nodes::is_fitted, theory::specs::Fold::both))]
 pub fn fill_masks(arena: &Arena, fallen: &Fallen, masks: &mut [u8])
     ensures { masks.new ≡ masks_left arena.now fallen.now masks.old }
 {

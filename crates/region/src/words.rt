@@ -78,17 +78,13 @@ impl Kept<'_> {
     }
 
     // Is some first word good? For any level: none is where it or its start is too large.
-    #[tactic(auto, using(crate::proofs::GoodLaws::guarded))]
+    #[tactic(auto, unfolding(theory::specs::Fold::both))]
     pub fn some_good(&self) -> bool
         ensures { result ≡ some_good_in self.now }
     {
-        if !self.level.is_sized(self.positions.len()) {
-            return false;
-        }
-        if MOST_POSITIONS <= self.level.start {
-            return false;
-        }
-        self.any_good()
+        self.level.is_sized(self.positions.len())
+            && self.level.start < MOST_POSITIONS
+            && self.any_good()
     }
 
     #[tactic(auto, using(crate::proofs::FlagLaws::all_flags), unfolding(theory::specs::Delay::flag_by))]

@@ -11,7 +11,7 @@ use lib.Dec.{eqb, ltb, leb}
 use lib.ListN.{length, get_or, set}
 use lib.Seq.{ext_get_or}
 use borrow.Author.Rules.{rules}
-use borrow.Author.Tests.{eq-eqb, ne_eqb, lt-ltb, le-ltb, le-leb, lt-leb, not-true, not-false}
+use borrow.Author.Tests.{lt-ltb, le-ltb, le-leb, lt-leb, not-true, not-false}
 use Rattle.theory.specs.Fold.{both, all_below, any_below, tabulate, count}
 use Rattle.theory.specs.Rounds.{Arena, spoilt_by, fell, node_falls, rank_in, ranks_after, final_ranks}
 use Rattle.theory.specs.Delay.{on_right}
@@ -24,7 +24,6 @@ use Rattle.walk.specs.declared.level.Level.{Level}
 use Rattle.walk.specs.code.Levels.{arena_of}
 use Rattle.sheet.specs.code.Arrays.{view_of}
 use Rattle.walk.specs.code.Walks.{fallen_by}
-use Rattle.walk.proofs.NodeLaws.{at_node}
 use Rattle.rounds.specs.code.Falling.{first_rank, falls_to, falls_next, next_ranks, AtMost, last_round}
 use Rattle.theory.proofs.Filling.{filled, filled_none, filled_more, filled_keep, filled_done, filled_below, filled_above}
 
@@ -32,38 +31,10 @@ pub ruleset filling = (rules, filled_none, filled_more, filled_done)
 
 -- the arena of the arrays
 
-actions_of_lem : (p : List ℕ) (g : List (List ℕ)) (u f : List ℕ) (l : Level) → (arena_of p g u f l).actions ≡ l.actions
-unfolding arena_of view_of
-actions_of_lem p g u f l = refl
-
 module _ (p : List ℕ) (g : List (List ℕ)) (u f : List ℕ) (l : Level) where
   pub right_is : (k : ℕ) → (arena_of p g u f l).right k ≡ on_right l.odd (controller_at p) (k / l.words)
   unfolding arena_of view_of
   right_is k = refl
-
-  pub falls_fallen : (n k : ℕ) (ranks : List ℕ) → (get_or ranks k 0 ≡ 0 → ⊥) → false ≡ falls_to (arena_of p g u f l) n ranks k
-  unfolding falls_to
-  falls_fallen n k ranks z = sym (both_none _ _ (ne_eqb (get_or ranks k 0) 0 z))
-
-  pub falls_wrong : (n k : ℕ) (ranks : List ℕ) {r : Bool} → r ≡ on_right l.odd (controller_at p) (k / l.words) → not r ≡ true
-      → false ≡ falls_to (arena_of p g u f l) n ranks k
-  unfolding falls_to
-  falls_wrong n k ranks {r} e z = sym (both_false _ _ (both_none _ _ (right_is k ∙ sym e ∙ not-true r z)))
-
-  pub falls_all : (n k : ℕ) (ranks : List ℕ) {m : ℕ} {r d : Bool} → m ≡ get_or ranks k 0 → m ≡ 0 → r ≡ on_right l.odd (controller_at p) (k / l.words)
-      → not r ≡ false → d ≡ all_below (spoilt_by (arena_of p g u f l) (fallen_by n ranks) k) l.actions
-      → d ≡ falls_to (arena_of p g u f l) n ranks k
-  unfolding falls_to
-  falls_all n k ranks {m} {r} {d} e z q s a =
-      a
-      ∙ actions_are
-      ∙ sym (both_second _ _ (eq-eqb _ 0 (sym e ∙ z)) ∙ both_second _ _ (right_is k ∙ sym q ∙ not-false r s))
-    where
-      actions_are : all_below (spoilt_by (arena_of p g u f l) (fallen_by n ranks) k) l.actions
-          ≡ all_below (spoilt_by (arena_of p g u f l) (fallen_by n ranks) k) (arena_of p g u f l).actions
-      actions_are = ap (all_below (spoilt_by (arena_of p g u f l) (fallen_by n ranks) k)) (sym (actions_of_lem p g u f l))
-
-pub ruleset falling = (rules, at_node, falls_fallen, falls_wrong, falls_all)
 
 -- one round: n of them are over, and the first k nodes of the next are done
 

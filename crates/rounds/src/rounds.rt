@@ -33,7 +33,7 @@ fn first_round(arena: &Arena, ranks: &mut [u16])
 }
 
 // Does node k fall now, to the nodes that have fallen by these ranks?
-#[tactic(auto, using(crate::proofs::RoundLaws::falling))]
+#[tactic(auto, unfolding(crate::specs::code::Falling::falls_to, walk::specs::code::Levels::arena_of, sheet::specs::code::Arrays::view_of, theory::specs::Fold::both), using(walk::proofs::NodeLaws::node_tested))]
 fn falls_now(arena: &Arena, fallen: &Fallen, k: usize) -> bool
     requires { (IsSized arena.now) × (k < arena.now.level.nodes) × (length fallen.now.marks.now ≡ arena.now.level.nodes) }
     ensures { result ≡ falls_to (arena_in arena.now) fallen.now.last fallen.now.marks.now k }
@@ -87,7 +87,7 @@ fn all_rounds(arena: &Arena, ranks: &mut [u16]) -> u16
 
 // The same for any level and buffer: nothing is done, and the number is 0, where the level is too large or the buffer has not one
 // entry for each node.
-#[tactic(auto, using(crate::proofs::RankedLaws::fitting))]
+#[tactic(auto, unfolding(crate::specs::code::Falling::Ranked, walk::specs::code::Nodes::is_fitted, theory::specs::Fold::both))]
 pub fn rounds(arena: &Arena, ranks: &mut [u16]) -> u16
     ensures { RanksLeftIn arena.now ranks.old ranks.new result }
 {

@@ -4,33 +4,23 @@ use mathlib.Core.Path.{◌≡◌, refl, sym, ◌∙◌, ap}
 use mathlib.Core.Bool.{Bool, true, false, not, cond}
 use mathlib.Core.List.{List}
 use native.Mathlib.Omega.{arith}
-use native.Mathlib.Nat.{pow-suc, div-div-eq-div-mul, div-one}
-use native.Mathlib.Numerals.{add-one}
-use mir.Val.{Fits}
-use mir.Syntax.{w64}
-use lib.Dec.{eqb, leb, ltb}
-use lib.Pow.{pow_mono}
+use lib.Dec.{leb, ltb}
 use lib.ListN.{length, get_or, set, drop, length-append, length-drop}
 use borrow.Author.Rules.{rules}
 use borrow.Author.Tests.{eq-eqb, ne_eqb, le-leb, lt-leb}
 use Rattle.theory.specs.Fold.{both, tabulate}
 use Rattle.theory.specs.Buffer.{over}
-use Rattle.theory.specs.Rounds.{Arena, spoilt_by, mask_below}
-use Rattle.theory.specs.Delay.{on_right}
+use Rattle.theory.specs.Rounds.{Arena}
 use Rattle.theory.specs.Table.{bit}
-use Rattle.theory.proofs.Fold.{both_none, both_second, both_false, both_true, failed, passed, length_tabulate, get_d_tabulate}
+use Rattle.theory.proofs.Fold.{both_none, both_second, length_tabulate, get_d_tabulate}
 use Rattle.theory.proofs.Buffer.{over_front, over_beyond}
 use Rattle.theory.proofs.Filling.{filled, filled_none, filled_more, filled_over}
-use Rattle.theory.proofs.Masks.{mask_first, mask_next, mask_done, cond_le, mask_lt}
-use Rattle.sheet.specs.Limits.{most_actions}
-use Rattle.sheet.specs.Kinds.{controller_at, safe_at}
-use Rattle.sheet.specs.code.Arrays.{view_of}
 use Rattle.walk.specs.declared.level.Level.{Level}
 use Rattle.walk.specs.code.Levels.{arena_of}
-use Rattle.walk.specs.code.Nodes.{Sized, is_node}
+use Rattle.walk.specs.code.Nodes.{Sized}
 use Rattle.walk.specs.code.Walks.{fallen_by, spoilt_answer}
-use Rattle.walk.proofs.NodeLaws.{node_level, node_lt, at_action}
-use Rattle.rule.specs.code.Parts.{mark_for, mark_at, marks_after, Marked, stays, part_of, part_in}
+use Rattle.walk.proofs.NodeLaws.{at_action}
+use Rattle.rule.specs.code.Parts.{mark_for, mark_at, marks_after, Marked, stays}
 
 -- marks
 
@@ -112,35 +102,3 @@ module _ (p : List ℕ) (g : List (List ℕ)) (u f : List ℕ) (l : Level) (mark
   unfolding stays bit
   bit_stays mask c z h a o e =
       both_second _ _ (eq-eqb (mask / 2 ^ c % 2) 1 o) ∙ ap not (sym (at_action (length p) l k c z h a e))
-
-  -- the node's side and safety before
-
-  pub words_here : {r : Bool} → r ≡ is_node (length p) l k → not r ≡ false → 0 < l.words
-  words_here e n = (node_level (length p) l k e n).some_word
-
-  pub part_absent : (mask : ℕ) {r : Bool} → r ≡ is_node (length p) l k → not r ≡ true → 0 ≡ part_in p g u f l marks k mask
-  unfolding part_in
-  part_absent mask e n = rw (failed e n)
-
-  module _ (mask : ℕ) {t r : Bool} (et : t ≡ is_node (length p) l k) (nt : not t ≡ false)
-      (e : r ≡ on_right l.odd (controller_at p) (k / l.words)) where
-    there : part_in p g u f l marks k mask ≡ part_of here (fallen_by 1 marks) k mask
-    unfolding part_in
-    there = rw (passed et nt)
-
-    pub part_wrong : not r ≡ true → 0 ≡ part_in p g u f l marks k mask
-    unfolding part_of arena_of view_of
-    part_wrong n = sym (there ∙ rw (both_none (here.right k) (here.safe k) (failed e n)))
-
-    module _ {s : Bool} (es : s ≡ safe_at p (k / l.words)) where
-      pub part_unsafe : not s ≡ true → 0 ≡ part_in p g u f l marks k mask
-      unfolding part_of arena_of view_of
-      part_unsafe n = sym (there ∙ rw (both_false (here.right k) (here.safe k) (failed es n)))
-
-      pub part_is : {m : ℕ} → not r ≡ false → not s ≡ false → m ≡ mask_below (stays here (fallen_by 1 marks) k mask) l.actions
-          → m ≡ part_in p g u f l marks k mask
-      unfolding part_of arena_of view_of
-      part_is n o q =
-          q ∙ sym (there ∙ rw (both_true (here.right k) (here.safe k) (passed e n) (passed es o)))
-
-pub ruleset a_part = (rules, node_level, node_lt, words_here, part_absent, part_wrong, part_unsafe, part_is)

@@ -1,36 +1,18 @@
 -- The numbers of one delay (src/level.rt), and the arena of the arrays at them: it is theory's. Assumes nothing.
-use Prim.Native.Nat.{ℕ, ◌*◌, ◌/◌, ◌%◌, ◌^◌, ◌≤◌, min}
+use Prim.Native.Nat.{ℕ, ◌/◌, ◌^◌, ◌≤◌, min}
 use mathlib.Core.Path.{◌≡◌, refl}
 use mathlib.Core.List.{List}
 use native.Mathlib.Omega.{arith}
 use native.Mathlib.Nat.{mul-le-mul_left, mul-le-mul_right, pow-le-pow_right, one-le-pow}
-use mir.Val.{Fits}
-use mir.Syntax.{w64}
-use lib.Dec.{eqb}
 use lib.ListN.{length}
-use borrow.Author.Rules.{rules}
 use borrow.Author.Tests.{le-leb}
-use Rattle.theory.specs.Delay.{odd, words, arena}
+use Rattle.theory.specs.Delay.{words, arena}
 use Rattle.sheet.specs.Limits.{most_nodes}
 use Rattle.sheet.specs.Size.{nodes_of}
 use Rattle.sheet.specs.code.Steps.{power_to, most_power}
 use Rattle.sheet.specs.code.Arrays.{view_of}
 use Rattle.walk.specs.code.Levels.{level_at, level_to, Room, arena_of}
 use Rattle.walk.specs.code.Nodes.{Sized}
-use Rattle.walk.proofs.Products.{product_fits}
-
--- as the code finds them
-
-pub level_nodes : {n w : ℕ} (positions : ℕ) → n ≡ min positions most_power → w ≤ most_power → Fits w64 (n * w)
-level_nodes positions e h = product_fits (omega arith) (omega arith)
-
-pub level_is : (positions start actions delay : ℕ) {s a d n w : ℕ} → s ≡ start → a ≡ actions → d ≡ delay → n ≡ min positions most_power
-    → w ≡ power_to actions (d / 2)
-    → record { start = s; actions = a; words = w; odd = eqb (delay % 2) 1; nodes = n * w } ≡ level_to positions start actions delay
-unfolding odd
-level_is positions start actions delay es ea ed en ew = rw (es, ea, ew, ed, en)
-
-pub ruleset levels = (rules, level_nodes, level_is)
 
 -- nothing is cut off where a sheet's numbers have room
 

@@ -2,32 +2,29 @@
 -- Assumes nothing.
 use Prim.Native.Nat.{ℕ, suc, ◌+◌, ◌-◌, ◌*◌, ◌/◌, ◌%◌, ◌≤◌, ◌<◌}
 use mathlib.Core.Path.{◌≡◌, refl, sym, ◌∙◌, ap}
-use mathlib.Core.Bool.{Bool, true, false, not}
+use mathlib.Core.Bool.{Bool, true, false}
 use mathlib.Core.Logic.{⊎_elim}
 use mathlib.Core.List.{List, map}
 use Rattle.std.proofs.Common.{Option, Some, None, is_some}
 use native.Mathlib.Omega.{arith}
 use native.Mathlib.Nat.{mod-lt, div-lt_iff_lt-mul}
 use native.Mathlib.Numerals.{add-one}
-use lib.Dec.{leb}
-use lib.ListN.{length, get_or, get_or-eq_default}
-use borrow.Author.Tests.{lt-ltb, le-ltb, not-true, not-false}
+use lib.ListN.{length, get_or}
+use borrow.Author.Tests.{le-ltb}
 use borrow.Author.Rules.{rules}
 use Rattle.theory.specs.Fold.{either, all_below, any_of, last_with}
 use Rattle.theory.specs.Game.{Target, absent, to, Game}
 use Rattle.theory.specs.Rounds.{bad, spoilt_by}
-use Rattle.theory.specs.Delay.{with_word, moved_to, played_to, outcomes, step}
+use Rattle.theory.specs.Delay.{moved_to, played_to, outcomes, step}
 use Rattle.theory.proofs.Fold.{bool, all_none, all_suc, all_done, below?, not_both, all_again, either_left, both_none, both_second}
 use Rattle.theory.proofs.Fold.{either_second, all_short, any_of_map, last_here, last_passed, last_over, found_any}
 use Rattle.sheet.specs.Kinds.{kind_at, is_safe, safe_at}
-use Rattle.sheet.specs.code.Arrays.{unmark, target_at, to_at, tos_between, view_of, absent_mark}
+use Rattle.sheet.specs.code.Arrays.{to_at, tos_between, view_of}
 use Rattle.walk.specs.declared.level.Level.{Level}
 use Rattle.walk.specs.declared.walk.Choice.{Choice}
 use Rattle.walk.specs.code.Levels.{arena_of}
 use Rattle.walk.specs.code.Walks.{moving_from, moves_after, played_at, choice_at, outcome_by, outcome_at, spoils_on}
 use Rattle.sheet.specs.Limits.{most_positions}
-use Rattle.sheet.specs.code.Steps.{most_power}
-use Rattle.sheet.proofs.GridLaws.{unmark_absent, unmark_to}
 
 -- choosing
 
@@ -132,20 +129,20 @@ module _ (p : List ℕ) (g : List (List ℕ)) (u f : List ℕ) (l : Level) (fall
   pub walk_blocked : (c : ℕ) → all_below S c ≡ true → None ≡ choice c → all_below S (c + 1) ≡ true
   walk_blocked c e h = all_again S c e (spoilt_blocked c h) refl
 
-  pub walk_open : (c : ℕ) {x : Choice} → all_below S c ≡ true → Some x ≡ choice c → all_below S (c + 1) ≡ is_some (last_of x)
-  walk_open c e h = rw (add-one c, all_suc S c) (both_second _ _ e ∙ sym (spoilt_open c h))
+  walk_open : (c : ℕ) (x : Choice) → all_below S c ≡ true → Some x ≡ choice c → all_below S (c + 1) ≡ is_some (last_of x)
+  walk_open c x e h = rw (add-one c, all_suc S c) (both_second _ _ e ∙ sym (spoilt_open c h))
 
   -- a spoiling line ends an action, and an action without one ends the walk
 
-  pub walk_spoilt : (c line : ℕ) (x : Choice) {r : Bool} → all_below S c ≡ is_some (last_of x)
+  pub walk_spoilt : (c line : ℕ) (x : Choice) {r : Bool} → all_below S c ≡ true → Some x ≡ choice c
       → last_below p g u l fallen x line ≡ last_of x → x.first < line
-      → r ≡ bad fallen (outcome_at p g l x (to_at u (line - 1))) → r ≡ true → all_below S c ≡ true
-  walk_spoilt c line x e d h b t = e ∙ ap is_some (sym (line_found p g u l fallen x line d h b t))
+      → r ≡ bad fallen (outcome_at p g l x (to_at u (line - 1))) → r ≡ true → all_below S (c + 1) ≡ true
+  walk_spoilt c line x a e d h b t = walk_open c x a e ∙ ap is_some (sym (line_found p g u l fallen x line d h b t))
 
-  pub walk_kept : (c n line : ℕ) (x : Choice) → all_below S (c + 1) ≡ is_some (last_of x) → last_below p g u l fallen x line ≡ last_of x
-      → line ≤ x.first → c < n → false ≡ all_below S n
-  walk_kept c n line x e d h m =
-      sym (all_short S (omega arith) (e ∙ ap is_some (sym (lines_over p g u l fallen x line d h))))
+  pub walk_kept : (c n line : ℕ) (x : Choice) → all_below S c ≡ true → Some x ≡ choice c
+      → last_below p g u l fallen x line ≡ last_of x → line ≤ x.first → c < n → false ≡ all_below S n
+  walk_kept c n line x a e d h m =
+      sym (all_short S (omega arith) (walk_open c x a e ∙ ap is_some (sym (lines_over p g u l fallen x line d h))))
 
   pub walk_done : (c n : ℕ) → all_below S c ≡ true → c ≤ n → n ≤ c → true ≡ all_below S n
   walk_done c n e h m = sym (all_done S h m e)
@@ -161,4 +158,4 @@ word_small k z = mod-lt k z
 pub ruleset walking = (rules, node_small, word_small, spoilt_blocked, spoilt_open)
 
 pub ruleset walks =
-    (rules, node_small, word_small, all_none, line_passed, walk_blocked, walk_open, walk_spoilt, walk_kept, walk_done)
+    (rules, node_small, word_small, all_none, line_passed, walk_blocked, walk_spoilt, walk_kept, walk_done)

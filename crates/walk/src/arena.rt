@@ -27,13 +27,7 @@ impl Fallen<'_> {
     pub(crate) fn has(&self, node: usize) -> bool
         ensures { result ≡ has_fallen self.now node }
     {
-        if self.marks.len() <= node {
-            return false;
-        }
-        let mark = self.marks[node];
-        if mark == 0 {
-            return false;
-        }
-        mark <= self.last
+        let mark = self.marks.get(node).copied().unwrap_or(0);
+        mark != 0 && mark <= self.last
     }
 }

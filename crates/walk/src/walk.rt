@@ -96,9 +96,7 @@ impl Arena<'_> {
         requires { (self.now.level.words ≤ most_power) × (x.rest < self.now.level.words) × (x.end < most_power) }
         ensures { result ≡ last_below self.now fallen.now x x.end }
     {
-        let mut line = x.end;
-        while x.first < line {
-            line -= 1;
+        for line in (x.first..x.end).rev() {
             if self.spoils(fallen, x, line) {
                 return Some(line);
             }
@@ -128,52 +126,35 @@ impl Arena<'_> {
     {
         let q = k / self.level.words;
         let w = k % self.level.words;
-        let mut c: usize = 0;
-        let all = 'actions: loop {
-            if self.level.actions <= c {
-                break 'actions true;
-            }
-            let choice = self.choose(q, w, c);
-            c += 1;
-            let Some(x) = choice else {
+        'actions: for c in 0..self.level.actions {
+            let Some(x) = self.choose(q, w, c) else {
                 continue 'actions;
             };
-            let mut line = x.end;
-            'moves: loop {
-                if line <= x.first {
-                    break 'actions false;
-                }
-                line -= 1;
+            'moves: for line in (x.first..x.end).rev() {
                 if self.spoils(fallen, x, line) {
-                    break 'moves;
+                    continue 'actions;
                 }
             }
-        };
-        all
+            return false;
+        }
+        true
     }
 
     // Is action c spoilt at node k? Where there is no such node or action, no.
-    #[tactic(auto, using(crate::proofs::NodeLaws::guarding))]
+    #[tactic(auto, unfolding(theory::specs::Fold::both))]
     pub fn spoilt(&self, fallen: &Fallen, k: usize, c: usize) -> bool
         ensures { result ≡ spoilt self.now fallen.now k c }
     {
-        if !self.level.is_node(self.positions.len(), k) {
-            return false;
-        }
-        if self.level.actions <= c {
-            return false;
-        }
-        self.spoilt_at(fallen, k, c)
+        self.level.is_node(self.positions.len(), k)
+            && c < self.level.actions
+            && self.spoilt_at(fallen, k, c)
     }
 
     // Is every action spoilt at node k? A node that does not exist: no.
-    #[tactic(auto, using(crate::proofs::NodeLaws::guarding))]
+    #[tactic(auto, unfolding(theory::specs::Fold::both))]
     pub fn all_spoilt(&self, fallen: &Fallen, k: usize) -> bool
         ensures { result ≡ all_spoilt self.now fallen.now k }
     {
-        if !self.level.is_node(self.positions.len(), k) {
-            return false;
-        }
-        self.all_spoilt_at(fallen, k)
+        self.level.is_node(self.positions.len(), k) && self.all_spoilt_at(fallen, k)
     }
 }

@@ -1,5 +1,5 @@
 -- The part of a mask that may stand, and the marks by which nodes count as fallen. Assumes nothing.
-use Rattle.std.specs.Prelude.{ℕ, ◌%◌, ◌<◌, ◌≡◌, Bool, not, cond, List, eqb, leb, length, get_or}
+use Rattle.std.specs.Prelude.{ℕ, ◌<◌, ◌≡◌, Bool, not, cond, List, eqb, leb, length, get_or}
 use Rattle.theory.specs.Fold.{both, tabulate}
 use Rattle.theory.specs.Buffer.{over}
 use Rattle.theory.specs.Rounds.{Arena, spoilt_by, mask_below}

@@ -1,5 +1,5 @@
 -- What the walk over a node's actions and moves goes through, and when it spoils. Assumes nothing.
-use Rattle.std.specs.Prelude.{ℕ, suc, ◌+◌, ◌*◌, ◌/◌, ◌%◌, ◌<◌, ◌≡◌, Bool, true, false, cond, List, ltb, leb, get_or, length, Option, Some, None, IfSome}
+use Rattle.std.specs.Prelude.{ℕ, suc, ◌+◌, ◌*◌, ◌/◌, ◌%◌, Bool, true, false, cond, List, ltb, leb, get_or, length, Option, Some, None}
 use Rattle.theory.specs.Fold.{both, all_below}
 use Rattle.theory.specs.Game.{Target, absent, to}
 use Rattle.theory.specs.Delay.{with_word}
@@ -8,7 +8,6 @@ use Rattle.walk.specs.declared.level.Level.{Level}
 use Rattle.walk.specs.declared.walk.Choice.{Choice}
 use Rattle.sheet.specs.code.Arrays.{target_at, to_at}
 use Rattle.theory.specs.Rounds.{bad, spoilt_by}
-use Rattle.sheet.specs.code.Steps.{most_power}
 use Rattle.walk.specs.code.Levels.{arena_of}
 use Rattle.walk.specs.code.Nodes.{is_node}
 

@@ -1,5 +1,5 @@
 -- `round` meets its contract. The nodes passed have the next round's ranks, the others the old ones. Assumes nothing.
-use Rattle.std.proofs.Common.{◌≡◌, length}
+use Rattle.std.proofs.Common.{◌≡◌}
 use Rattle.theory.specs.Fold.{any_below}
 use Rattle.theory.specs.Rounds.{rank_in}
 use Rattle.walk.specs.code.Arenas.{arena_in}

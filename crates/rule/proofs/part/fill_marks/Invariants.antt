@@ -1,5 +1,5 @@
 -- `fill_marks` meets its contract. The marks of the nodes passed are in place. Assumes nothing.
-use Rattle.std.proofs.Common.{◌≡◌, ◌≤◌, length}
+use Rattle.std.proofs.Common.{◌≡◌, length}
 use Rattle.theory.proofs.Filling.{filled}
 use Rattle.rule.specs.code.Parts.{mark_at}
 use Rattle.rule.proofs.part.fill_marks.Given as goal

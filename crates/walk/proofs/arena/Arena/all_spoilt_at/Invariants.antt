@@ -1,20 +1,12 @@
 -- `all_spoilt_at` meets its contract. Every action passed is spoilt; no line passed spoils the action at hand, so that what is left to
 -- search has the same last one. Assumes nothing.
-use Rattle.std.proofs.Common.{◌≡◌, ◌-◌, ◌≤◌, true, is_some}
+use Rattle.std.proofs.Common.{◌≡◌, true}
 use Rattle.theory.specs.Fold.{all_below}
 use Rattle.walk.specs.code.Arenas.{last_below, spoilt_at}
 use Rattle.walk.proofs.arena.Arena.all_spoilt_at.Given as goal
 
 abbrev pub invariant-moves : goal.invariant-moves
-invariant-moves l = (l.line ≤ l.x.end)
-    × (last_below l.self l.fallen l.x l.line ≡ last_below l.self l.fallen l.x l.x.end)
-    × (all_below (spoilt_at l.self l.fallen l.k) l.c ≡ is_some (last_below l.self l.fallen l.x l.x.end))
-
-abbrev pub decreases-moves : goal.decreases-moves
-decreases-moves l = l.line
+invariant-moves l = last_below l.self l.fallen l.x l.line ≡ last_below l.self l.fallen l.x l.x.end
 
 abbrev pub invariant-actions : goal.invariant-actions
-invariant-actions l = (l.c ≤ l.self.level.actions) × (all_below (spoilt_at l.self l.fallen l.k) l.c ≡ true)
-
-abbrev pub decreases-actions : goal.decreases-actions
-decreases-actions l = l.self.level.actions - l.c
+invariant-actions l = all_below (spoilt_at l.self l.fallen l.k) l.c ≡ true
