@@ -4,7 +4,7 @@ use mathlib.Core.Path.{◌≡◌, refl, sym, ◌∙◌, ap}
 use mathlib.Core.Bool.{Bool, true, false, not}
 use mathlib.Core.List.{List}
 use native.Mathlib.Omega.{arith}
-use native.Mathlib.Nat.{mul_comm, mul_assoc, mul-le-mul, mul-le-mul_right, suc-mul}
+use native.Mathlib.Nat.{mul_comm, mul_assoc, mul-le-mul_right, suc-mul}
 use mir.Val.{Fits}
 use mir.Syntax.{w64}
 use lib.ListN.{length, get_or}

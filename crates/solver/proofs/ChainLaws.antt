@@ -1,5 +1,5 @@
 -- Chains visit exactly the places of their key. Assumes nothing.
-use Prim.Native.Nat.{ℕ, zero, suc, ◌+◌, ◌-◌, ◌*◌, ◌/◌, ◌%◌, ◌≤◌, ◌<◌}
+use Prim.Native.Nat.{ℕ, zero, suc, ◌+◌, ◌-◌, ◌/◌, ◌%◌, ◌≤◌, ◌<◌}
 use mathlib.Core.Path.{◌≡◌, refl, sym, ◌∙◌, ap}
 use mathlib.Core.Bool.{true, false}
 use mathlib.Core.Logic.{⊎_elim}
@@ -8,15 +8,12 @@ use native.Mathlib.Omega.{arith}
 use native.Mathlib.Numerals.{add-one}
 use lib.Dec.{eqb}
 use lib.ListN.{length, replicate, get_or, set, length-set, get_or-eq_default}
-use lib.Seq.{set_out, get_or-set_same, get_or-set_other}
-use borrow.Author.Rules.{rules}
+use lib.Seq.{get_or-set_same, get_or-set_other}
 use borrow.Author.Tests.{eq-eqb, ne_eqb, lt-ltb, le-ltb}
 use Rattle.theory.proofs.Fold.{bool, same?, below?}
-use Rattle.sheet.specs.Limits.{most_moves}
-use Rattle.solver.specs.code.Sizes.{most_cells}
-use Rattle.solver.specs.code.Chains.{last_of, chain_of, chain, head_of, Chains, Linked, cell_key}
+use Rattle.solver.specs.code.Chains.{last_of, chain_of, chain, head_of, Linked, cell_key}
 use Rattle.theory.specs.Game.{absent, to}
-use Rattle.sheet.specs.code.Arrays.{index_entries, absent_mark, mark_of, unmark, target_at, to_at, line_count}
+use Rattle.sheet.specs.code.Arrays.{index_entries, absent_mark, mark_of, unmark, target_at}
 use Rattle.sheet.proofs.GridLaws.{unmark_absent, unmark_to}
 
 module _ (key : ℕ → ℕ) (x : ℕ) where
@@ -134,26 +131,6 @@ module _ (key : ℕ → ℕ) (count : ℕ) (heads links : List ℕ) (ix : Linked
   pub chain_visits : (x i : ℕ) → x < index_entries → i < count → key i ≡ x → Memᴰ i (chain links (head_of heads x))
   chain_visits x i h l e = rw (head_in heads x h, ix.head x h) (visited x count i h (omega arith) l e)
 
-pub head_read : (heads : List ℕ) (x : ℕ) {r b : ℕ} → r ≡ b → b ≡ get_or heads x 0 → x < 257 → r ≡ head_of heads x
-head_read heads x e f h = e ∙ f ∙ sym (head_in heads x h)
-
-pub head_read_out : (heads : List ℕ) (x : ℕ) → 257 ≤ x → 0 ≡ head_of heads x
-head_read_out heads x h = sym (head_out heads x h)
-
-pub ruleset heading = (rules, head_read, head_read_out)
-
--- chains that are linked end
-pub linked_chains : (key : ℕ → ℕ) (n most : ℕ) (heads links : List ℕ) → Linked key n heads links → n ≤ most → Chains most heads links
-linked_chains key n most heads links ix h =
-    record {
-      head = λ x.
-          ⊎_elim
-          (λ (a : x < index_entries). let l = last_le key x n in rw (head_in heads x a, ix.head x a) (omega arith))
-          (λ (a : index_entries ≤ x). rw (head_out heads x a) (omega arith))
-          (below? x index_entries);
-      down = record { link = ix.down };
-    }
-
 -- nothing is linked where all is 0
 pub linked_none : (key : ℕ → ℕ) (heads links : List ℕ) → length heads ≡ index_entries → ((x : ℕ) → get_or heads x 0 ≡ 0) → ((i : ℕ) → get_or links i 0 ≡ 0)
     → Linked key 0 heads links
@@ -166,15 +143,16 @@ linked_none key heads links s a b =
       down = λ i. rw (b i) (omega arith);
     }
 
+-- a first link is at most the number of places
+pub linked_below : (key : ℕ → ℕ) (n : ℕ) (heads links : List ℕ) → Linked key n heads links → (x : ℕ) → get_or heads x 0 ≤ n
+linked_below key n heads links ix x =
+    ⊎_elim
+    (λ (a : x < index_entries). let l = last_le key x n in rw (ix.head x a) l)
+    (λ (a : index_entries ≤ x). let z : get_or heads x 0 ≡ 0 = get_or-eq_default heads 0 (let s = ix.size in omega arith) in omega arith)
+    (below? x index_entries)
+
 -- one place more
 module _ (key : ℕ → ℕ) (n : ℕ) (heads links : List ℕ) (ix : Linked key n heads links) (room : n < length links) where
-  first_le : (x : ℕ) → get_or heads x 0 ≤ n
-  first_le x =
-      ⊎_elim
-      (λ (a : x < index_entries). let l = last_le key x n in rw (ix.head x a) l)
-      (λ (a : index_entries ≤ x). let z : get_or heads x 0 ≡ 0 = get_or-eq_default heads 0 (let s = ix.size in omega arith) in omega arith)
-      (below? x index_entries)
-
   pub linked_next : {x : ℕ} → x ≡ key n → Linked key (n + 1) (set heads x (n + 1)) (set links n (get_or heads x 0))
   linked_next {x} e =
       record {
@@ -194,7 +172,7 @@ module _ (key : ℕ → ℕ) (n : ℕ) (heads links : List ℕ) (ix : Linked key
             (same? i n);
         down = λ i.
             ⊎_elim
-            (λ (q : i ≡ n). let f = first_le x in rw (q, get_or-set_same links n (get_or heads x 0) 0 room) f)
+            (λ (q : i ≡ n). let f = linked_below key n heads links ix x in rw (q, get_or-set_same links n (get_or heads x 0) 0 room) f)
             (λ q. rw (get_or-set_other links n i (get_or heads x 0) 0 q) (ix.down i))
             (same? i n);
       }
@@ -203,14 +181,6 @@ module _ (key : ℕ → ℕ) (n : ℕ) (heads links : List ℕ) (ix : Linked key
       less i h d = ⊎_elim (λ (z : i < n). z) (λ (z : n ≤ i). let q : i ≡ n = omega arith in absurd (d q)) (below? i n)
 
 -- the code of src/index.rt
-
-pub link_out : (heads : List ℕ) (i x : ℕ) → length heads ≤ x → heads ≡ set heads x (i + 1)
-link_out heads i x h = sym (set_out heads x (i + 1) h)
-
-pub link_end : (heads links : List ℕ) (i x : ℕ) → length heads ≤ x → set links i 0 ≡ set links i (get_or heads x 0)
-link_end heads links i x h = ap (set links i) (sym (get_or-eq_default heads 0 h))
-
-pub ruleset linking = (rules, link_out, link_end)
 
 pub marked_absent : mark_of absent ≡ absent_mark
 unfolding mark_of
@@ -231,10 +201,6 @@ cell_mark g i {t} e f = f ∙ sym (mark_unmark t) ∙ ap mark_of e
         (λ q. rw (unmark_to q) (marked_to t))
         (same? t absent_mark)
 
-pub linked_pushed : (key : ℕ → ℕ) (n i : ℕ) (heads links : List ℕ) {h l : List ℕ} {x : ℕ} → Linked key i heads links → n ≡ i → i < length links → x ≡ key i
-    → h ≡ set heads x (n + 1) → l ≡ set links n (get_or heads x 0) → Linked key (i + 1) h l
-linked_pushed key n i heads links ix e room k p q = rw (p, q, e) (linked_next key i heads links ix room k)
-
-pub to_key : (u : List ℕ) (i : ℕ) {x b : ℕ} → x ≡ b → b ≡ get_or u (2 * i + 1) 0 → x ≡ to_at u i
-unfolding to_at
-to_key u i e f = e ∙ f
+pub linked_pushed : (key : ℕ → ℕ) (n : ℕ) (heads links : List ℕ) {h l : List ℕ} {x : ℕ} → Linked key n heads links → n < length links → x ≡ key n
+    → h ≡ set heads x (n + 1) → l ≡ set links n (get_or heads x 0) → Linked key (n + 1) h l
+linked_pushed key n heads links ix room e p q = rw (p, q) (linked_next key n heads links ix room e)

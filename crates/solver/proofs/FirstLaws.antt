@@ -1,20 +1,16 @@
 -- Round 1 (src/first.rt), node by node. Assumes nothing.
-use Prim.Native.Nat.{ℕ, suc, ◌+◌, ◌-◌, ◌*◌, ◌/◌, ◌≤◌, ◌<◌}
-use mathlib.Core.Path.{◌≡◌, refl, sym, ◌∙◌, ap}
-use mathlib.Core.Bool.{Bool, true, false, not, cond}
+use Prim.Native.Nat.{ℕ, ◌+◌, ◌-◌, ◌*◌, ◌/◌, ◌≤◌, ◌<◌}
+use mathlib.Core.Path.{◌≡◌, sym, ◌∙◌, ap}
+use mathlib.Core.Bool.{Bool, true, false, cond}
 use mathlib.Core.Logic.{◌⊎◌, ⊎_elim}
 use mathlib.Core.List.{List}
 use native.Mathlib.Omega.{arith}
-use native.Mathlib.Nat.{mul-le-mul_right, suc-mul}
+use native.Mathlib.Nat.{suc-mul}
 use lib.Arith.{digits_lt, digits_div}
 use native.Mathlib.Numerals.{add-one}
 use lib.ListN.{length, get_or, set, length-set}
 use lib.Seq.{get_or-set_same, get_or-set_other}
-use borrow.Author.Rules.{rules}
-use borrow.Author.Tests.{not-true, not-false}
-use Rattle.theory.specs.Delay.{on_right}
-use Rattle.theory.proofs.Fold.{not_both, below_cases, both_none, both_second}
-use Rattle.sheet.specs.Kinds.{controller_at, safe_at}
+use Rattle.theory.proofs.Fold.{not_both, below_cases}
 use Rattle.walk.specs.declared.level.Level.{Level}
 use Rattle.walk.specs.code.Nodes.{Sized}
 use Rattle.sheet.specs.Limits.{most_nodes}
@@ -36,14 +32,6 @@ module _ (p : List ℕ) (l : Level) (k t : ℕ) where
 module _ (positions : ℕ) (l : Level) (sized : Sized positions l) (q i : ℕ) (h : q < positions) where
   pub row_node : i < l.words → q * l.words + i < l.nodes
   row_node a = rw sized.all_nodes (digits_lt h a)
-
-  pub row_le : i ≤ l.words → q * l.words + i ≤ most_nodes
-  row_le a =
-      let n = sized.few_nodes in
-      let e = sized.all_nodes in
-      let r : suc q * l.words ≤ positions * l.words = mul-le-mul_right l.words h in
-      let s = suc-mul q l.words in
-      omega arith
 
 module _ (p : List ℕ) (l : Level) (full k : ℕ) (w : Work) (placed : Placed p l full k w) (inside : k < l.nodes) where
   abbrev here : Bool
@@ -190,5 +178,3 @@ module _ (p : List ℕ) (l : Level) (full : ℕ) where
       let e : q ≡ length p = omega arith in
       let r : q * l.words ≡ l.nodes = ap (λ (x : ℕ). x * l.words) e ∙ sym sized.all_nodes in
       rw r at placed
-
-pub ruleset all_rows = (rules, rows_start, rows_again, rows_done)

@@ -4,7 +4,6 @@ use mathlib.Core.Path.{◌≡◌, sym, ◌∙◌, ap}
 use mathlib.Core.Bool.{Bool, not, cond}
 use mathlib.Core.List.{List}
 use lib.ListN.{length}
-use borrow.Author.Rules.{rules}
 use Rattle.theory.specs.Fold.{tabulate}
 use Rattle.theory.specs.Rounds.{spoilt_by, kept, mask_below, mask_at, masks_by}
 use Rattle.theory.proofs.Region.{length_masks}

@@ -7,25 +7,20 @@ use mathlib.Core.List.{List, [], ◌∷◌, map, Memᴰ}
 use mathlib.Core.Logic.{⊎_elim}
 use native.Mathlib.Omega.{arith}
 use native.Mathlib.Nat.{mul-add-div_right, mul-add-mod_self_right, div-eq_of_lt, mod-eq_of_lt}
-use mir.Val.{Fits}
-use mir.Syntax.{w64}
 use lib.ListN.{length, get_or, set, length-set, take, get_or-eq_default}
 use lib.Seq.{get_or-set_same, get_or-set_other, get_or-take, length-take-le}
 use borrow.Author.Tests.{eq-eqb, ne_eqb, lt-ltb, le-ltb}
 use Rattle.theory.specs.Table.{bit}
 use Rattle.theory.proofs.Fold.{bool, not_both, below?, same?}
 use Rattle.theory.proofs.Masks.{zero_bit}
-use Rattle.walk.specs.declared.level.Level.{Level}
 use Rattle.sheet.specs.Limits.{most_nodes}
 use Rattle.solver.specs.code.Spread.{Spot}
 use Rattle.solver.specs.code.Work.{Work, fall_to, leave_to, mark_to, marks_to}
 use Rattle.solver.specs.code.Chains.{chain, head_of}
 use Rattle.solver.specs.code.Spread.{Spotted, caller_at, callers}
-use Rattle.solver.specs.code.Sweep.{Fitted, spot_at}
 use Rattle.solver.specs.code.Seen.{Clear, Seen}
 use Rattle.solver.proofs.BitLaws.{bit_out, bit_other, some_mask}
 use Rattle.solver.proofs.StateLaws.{mask_of}
-use Rattle.solver.proofs.SpreadLaws.{small_product}
 
 -- bits only go out, and the queue only grows
 pub record Ran (w w' : Work) : Type 0 where
@@ -162,18 +157,6 @@ module _ (heads cells : List ℕ) (words younger actions : ℕ) where
   pub seen_none : (seen : List Bool) (masks : List ℕ) → Clear seen → Seen heads cells words younger actions seen masks
   seen_none seen masks clear = record { out = λ s z x m. absurd (not_both z (clear.none s)) }
 
--- the place of a note fits a word
-module _ (p : Spot) (small : Spotted p) (t : ℕ) (h : t < 256) where
-  pub product_fits : Fits w64 (t * p.words)
-  product_fits = let r = small_product t p.words h small.few_words in record { fits = omega arith }
-
-  pub place_fits : Fits w64 (t * p.words + p.word)
-  place_fits =
-      let r = small_product t p.words h small.few_words in
-      let l = small.few_words in
-      let m = small.word_inside in
-      record { fits = omega arith }
-
 -- one target and the spot's word
 module _ (heads cells : List ℕ) (p : Spot) (small : Spotted p) (t : ℕ) where
   target_is : (t * p.words + p.word) / p.words ≡ t
@@ -196,10 +179,6 @@ module _ (heads cells : List ℕ) (p : Spot) (small : Spotted p) (t : ℕ) where
       → bit (get_or masks ((x / 8) * p.words + (x % 8) * p.younger + v / p.actions) 0) (v % p.actions) ≡ false
 
   module _ (n : ℕ) (w : Work) where
-    pub called : {v : Work} {h : ℕ} → h ≡ head_of heads t → v ≡ marks_to n p.action w (callers cells p h)
-        → v ≡ marks_to n p.action w (callers cells p (head_of heads t))
-    called q e = e ∙ ap (λ x. marks_to n p.action w (callers cells p x)) q
-
     outs_there : (masks : List ℕ) → ((x : ℕ) → Memᴰ x (chain cells (head_of heads t)) → bit (get_or masks (caller_at p x) 0) p.action ≡ false)
         → Outs t p.word masks
     unfolding caller_at
@@ -244,14 +223,6 @@ module _ (heads cells : List ℕ) (p : Spot) (small : Spotted p) (t : ℕ) where
               (λ (d : s ≡ t * p.words + p.word → ⊥). kept.out s (sym (get_or-set_other seen (t * p.words + p.word) s true false d) ∙ z))
               (same? s (t * p.words + p.word));
         }
-
--- a level's spots
-module _ (l : Level) (younger : ℕ) (fits : Fitted l younger) (n j : ℕ) (heads cells : List ℕ) (seen : List Bool) (masks : List ℕ) {s : Spot} (e : s ≡ spot_at l younger n j) where
-  pub seen_spot : Seen heads cells l.words younger l.actions seen masks → Seen heads cells s.words s.younger s.actions seen masks
-  seen_spot known = rw e known
-
-  pub seen_level : Seen heads cells s.words s.younger s.actions seen masks → Seen heads cells l.words younger l.actions seen masks
-  seen_level known = rw e at known
 
 -- the first notes
 pub clear_part : (n : ℕ) (seen : List Bool) → length seen ≡ most_nodes → ((i : ℕ) → i < most_nodes → get_or seen i false ≡ false) → n ≤ most_nodes → Clear (take n seen)

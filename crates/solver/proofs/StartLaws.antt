@@ -66,9 +66,6 @@ module _ (E : Arena) (p : List ℕ) (l : Level) (w : Work) (some : 0 < E.actions
 
   -- three kinds of nodes
   module _ (k : ℕ) (h : k < E.nodes) where
-    wrong_rank : E.right k ≡ false → rank_of w k ≡ 0
-    wrong_rank r = rank_at_lem k h ∙ rw (both_none (E.right k) (not (E.safe k)) r)
-
     wrong_mask : E.right k ≡ false → mask_of w k ≡ 0
     wrong_mask r = mask_at_lem k h ∙ rw (both_none (E.right k) (E.safe k) r)
 

@@ -1,65 +1,18 @@
 -- The code of src/sweep.rt. Assumes nothing.
-use Prim.Native.Nat.{ℕ, suc, ◌+◌, ◌-◌, ◌*◌, ◌/◌, ◌%◌, ◌≤◌, ◌<◌}
-use mathlib.Core.Path.{◌≡◌, refl, sym, ◌∙◌, ap}
+use Prim.Native.Nat.{ℕ, suc, ◌+◌, ◌-◌, ◌/◌, ◌≤◌, ◌<◌}
+use mathlib.Core.Path.{◌≡◌, sym, ◌∙◌, ap}
 use mathlib.Core.Bool.{true, false}
 use mathlib.Core.List.{List}
 use native.Mathlib.Omega.{arith}
-use native.Mathlib.Nat.{mod-lt, div-le_self, mul-le-mul_left}
-use mir.Val.{Fits}
-use mir.Syntax.{w8}
 use lib.ListN.{get_or}
-use borrow.Author.Rules.{rules}
 use Rattle.sheet.specs.code.Arrays.{to_at, line_count}
 use Rattle.walk.specs.declared.level.Level.{Level}
 use Rattle.solver.specs.code.Spread.{Spot}
-use Rattle.solver.specs.code.Sizes.{largest16, most_cells}
+use Rattle.solver.specs.code.Sizes.{most_cells}
 use Rattle.solver.specs.code.Work.{Work, marks_to}
 use Rattle.solver.specs.code.Chains.{head_of, Linked, cell_key}
-use Rattle.solver.specs.code.Spread.{Spotted, even_nodes, odd_nodes}
-use Rattle.solver.specs.code.Sweep.{Index, Indexed, Fitted, spot_at, nodes_before, spread_to, sweep_to}
-
-module _ (l : Level) (younger : ℕ) (fits : Fitted l younger) where
-  pub some_word : 0 < l.words
-  some_word =
-      let w = fits.whole in
-      let y = fits.some_younger in
-      let a = fits.some_action in
-      let r : younger * 1 ≤ younger * l.actions = mul-le-mul_left younger a in
-      omega arith
-
-  younger_le : younger ≤ l.words
-  younger_le =
-      let w = fits.whole in
-      let a = fits.some_action in
-      let r : younger * 1 ≤ younger * l.actions = mul-le-mul_left younger a in
-      omega arith
-
-  pub action_lt : (v : ℕ) → v % l.actions < l.actions
-  action_lt v = mod-lt v fits.some_action
-
-  pub action_fits : (v : ℕ) → Fits w8 (v % l.actions)
-  action_fits v = let a = action_lt v in let f = fits.few_actions in record { fits = omega arith }
-
-  pub spot_spotted : (n j : ℕ) → n < largest16 → Spotted (spot_at l younger n j)
-  spot_spotted n j h =
-      let f = fits.few_words in
-      let y = younger_le in
-      let a = action_lt (j % l.words) in
-      let c = fits.few_actions in
-      let m = mod-lt j some_word in
-      let d = div-le_self (j % l.words) l.actions in
-      record {
-        round = h;
-        few_words = f;
-        few_younger = omega arith;
-        few_rest = omega arith;
-        few_actions = omega arith;
-        word_inside = m;
-        rest_is = refl;
-        action_is = refl;
-      }
-
-pub ruleset spotting = (rules, some_word, action_fits, spot_spotted)
+use Rattle.solver.specs.code.Spread.{even_nodes, odd_nodes}
+use Rattle.solver.specs.code.Sweep.{Index, Indexed, spot_at, nodes_before, spread_to, sweep_to}
 
 module _ (x : Index) (l : Level) (younger n : ℕ) (w : Work) (j : ℕ) where
   pub spread_odd_is : (s : Spot) {v : Work} → s ≡ spot_at l younger n j → l.odd ≡ true

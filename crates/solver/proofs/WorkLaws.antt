@@ -1,23 +1,16 @@
 -- All rounds at one delay (src/work.rt), over the arena of the arrays. Assumes nothing.
-use Prim.Native.Nat.{ℕ, ◌+◌, ◌-◌, ◌*◌, ◌%◌, ◌^◌, ◌≤◌, ◌<◌}
-use mathlib.Core.Path.{◌≡◌, refl, sym, ◌∙◌, ap}
+use Prim.Native.Nat.{ℕ, ◌+◌, ◌-◌, ◌*◌, ◌^◌, ◌≤◌, ◌<◌}
+use mathlib.Core.Path.{◌≡◌, refl}
 use mathlib.Core.List.{List}
 use native.Mathlib.Omega.{arith}
-use native.Mathlib.Nat.{mod-eq_of_lt}
-use mir.Val.{Fits}
-use mir.Syntax.{w8}
-use lib.Pow.{pow_pos, pow_mono}
-use lib.ListN.{length, take}
-use lib.Seq.{length-take-le}
-use borrow.Author.Rules.{rules}
+use lib.ListN.{length}
 use Rattle.theory.specs.Rounds.{Arena, ranks_after}
 use Rattle.theory.proofs.Rounds.{fell_rank}
 use Rattle.sheet.specs.code.Arrays.{view_of}
 use Rattle.walk.specs.declared.level.Level.{Level}
 use Rattle.walk.specs.code.Levels.{arena_of}
-use Rattle.sheet.specs.Limits.{most_nodes}
 use Rattle.solver.specs.code.Sizes.{largest16}
-use Rattle.solver.specs.code.Work.{Work, Lent}
+use Rattle.solver.specs.code.Work.{Work}
 use Rattle.solver.specs.code.Sweep.{Index, sweep_to}
 use Rattle.solver.specs.code.First.{Placed}
 use Rattle.solver.specs.code.Block.{blocks_to}
@@ -26,30 +19,6 @@ use Rattle.solver.proofs.StateLaws.{Good}
 use Rattle.solver.proofs.ReadyLaws.{Ready, Finished, ready_next, ready_done}
 use Rattle.solver.proofs.StartLaws.{start_good}
 use Rattle.solver.proofs.BlockLaws.{blocks_good, blocks_marked}
-
--- the mask of all actions, in code
-
-module _ (a : ℕ) (h : a ≤ 8) where
-  bits_small : 2 ^ a ≤ 256
-  bits_small = pow_mono h
-
-  shifted : (1 * 2 ^ a) % 18446744073709551616 ≡ 2 ^ a
-  shifted =
-      let l = bits_small in
-      let q : 1 * 2 ^ a ≡ 2 ^ a = omega arith in
-      let r : 2 ^ a < 18446744073709551616 = omega arith in
-      ap (λ (y : ℕ). y % 18446744073709551616) q ∙ mod-eq_of_lt r
-
-  pub full_sub : 1 ≤ (1 * 2 ^ a) % 18446744073709551616
-  full_sub = rw shifted (pow_pos a)
-
-  pub full_cast : Fits w8 ((1 * 2 ^ a) % 18446744073709551616 - 1)
-  full_cast = let l = bits_small in record { fits = rw shifted (omega arith) }
-
-  pub full_is : (1 * 2 ^ a) % 18446744073709551616 - 1 ≡ 2 ^ a - 1
-  full_is = ap (λ (x : ℕ). x - 1) shifted
-
-pub ruleset fulls = (rules, full_sub, full_cast, full_is)
 
 -- the state before a sweep, in code
 pub record Rounding (E : Arena) (n lo hi : ℕ) (w : Work) : Type 0 where
@@ -71,16 +40,6 @@ module _ (p : List ℕ) (g : List (List ℕ)) (u f : List ℕ) (x : Index) (l : 
     unfolding arena_of view_of
     start_placed =
         start_good E p l w can.fits.some_action nodes_is (λ k. refl) (λ k. refl) (rw is at placed)
-
-    pub start_lent : Lent w.ranks w.masks w.queue
-    start_lent =
-        let n = can.sized.few_nodes in
-        let m = placed.masks_size in
-        record {
-          ranks_size = placed.ranks_size ∙ sym placed.masks_size;
-          queue_size = placed.queue_size ∙ sym placed.masks_size;
-          few = omega arith;
-        }
 
     pub start_rounds : {v : Work} → v ≡ blocks_to E younger w 0 (length p * l.actions) → Rounding E 1 0 w.tail v
     unfolding arena_of view_of
@@ -106,18 +65,6 @@ module _ (p : List ℕ) (g : List (List ℕ)) (u f : List ℕ) (x : Index) (l : 
 
   -- before a sweep
   module _ (n lo hi : ℕ) (w : Work) (r : Rounding E n lo hi w) where
-    pub round_lent : Lent w.ranks w.masks w.queue
-    round_lent =
-        let good = r.ready.good in
-        let n = can.sized.few_nodes in
-        let e = nodes_is in
-        let m = good.masks_size in
-        record {
-          ranks_size = good.ranks_size ∙ sym good.masks_size;
-          queue_size = good.queue_size ∙ sym good.masks_size;
-          few = omega arith;
-        }
-
     pub round_inside : hi ≤ l.nodes
     round_inside =
         let a = r.ready.good.order in
@@ -147,15 +94,6 @@ module _ (p : List ℕ) (g : List (List ℕ)) (u f : List ℕ) (x : Index) (l : 
       pub round_next : (v.tail ≡ hi → ⊥) → Rounding E (n + 1) hi v.tail v
       round_next z = let m = round_more z in let b = r.few in record { ready = next_ready; few = omega arith }
 
-      pub next_ranks_lem : length v.ranks ≡ l.nodes
-      next_ranks_lem = next_ready.good.ranks_size ∙ sym nodes_is
-
-      pub next_masks : length v.masks ≡ l.nodes
-      next_masks = next_ready.good.masks_size ∙ sym nodes_is
-
-      pub next_queue : length v.queue ≡ l.nodes
-      next_queue = next_ready.good.queue_size ∙ sym nodes_is
-
       pub next_inside : v.tail ≤ l.nodes
       next_inside =
           let a = next_ready.good.order in
@@ -171,7 +109,3 @@ module _ (p : List ℕ) (g : List (List ℕ)) (u f : List ℕ) (x : Index) (l : 
 
       pub round_over : v.tail ≡ hi → Worked E v.ranks v.masks n
       round_over z = let d = done_here z in record { ranks = d.ranks; masks = d.masks; most = d.most }
-
--- the queue's part for the nodes
-pub queue_part : (n : ℕ) (queue : List ℕ) → length queue ≡ most_nodes → n ≤ most_nodes → n ≡ length (take n queue)
-queue_part n queue e h = sym (length-take-le n queue (omega arith))

@@ -29,7 +29,10 @@ fn blocked(arena: &Arena, younger: usize, b: usize) -> bool
         return false;
     }
     if level.odd {
-        let nothing = Fallen { marks: &[], last: 0 };
+        let nothing = Fallen {
+            marks: &[],
+            last: 0,
+        };
         return arena.spoilt(&nothing, b * younger, 0);
     }
     let t = target(arena.grid, q, b % level.actions);

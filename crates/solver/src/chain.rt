@@ -7,16 +7,14 @@ ghost use Rattle.solver.specs.code.Chains.{Linked, chain, head_of};
 
 use sheet::limits::INDEX;
 
-// So many places are linked, out of N.
+// At most N places.
 #[derive(Drop)]
 pub(crate) struct Chain<const N: usize> {
     pub(crate) heads: [u16; INDEX],
     pub(crate) links: [u16; N],
-    pub(crate) count: usize,
-    ghost heads_end: { (x : _) → get_or heads x 0 ≤ count },
+    ghost heads_end: { (x : _) → get_or heads x 0 ≤ N },
     ghost links_end: { (i : _) → get_or links i 0 ≤ i },
     ghost whole: { length links ≡ N },
-    ghost room: { count ≤ N },
     ghost few: { N < largest16 },
 }
 
@@ -24,37 +22,32 @@ impl<const N: usize> Chain<N> {
     // No place yet.
     pub(crate) fn new() -> Chain<N>
         requires { N < largest16 }
-        ensures none { result.count ≡ 0 }
-        ensures linked { (f : ℕ → ℕ) → Linked f 0 result.heads result.links }
+        ensures { (f : ℕ → ℕ) → Linked f 0 result.heads result.links }
     {
         let heads = [0; INDEX];
         let links = [0; N];
-        Chain { heads, links, count: 0 }
+        Chain { heads, links }
     }
 
-    // Places 0 to n - 1, by their keys.
-    pub(crate) fn of<K: Fn(usize) -> usize>(n: usize, key: K) -> Chain<N>
-        requires few { N < largest16 }
+    // Places 0 to n - 1, by their keys, where there is no place yet.
+    pub(crate) fn link<K: Fn(usize) -> usize>(&mut self, n: usize, key: K)
+        requires empty { (f : ℕ → ℕ) → Linked f 0 self.old.heads self.old.links }
         requires room { n ≤ N }
         requires callable { (i : _) → i < n → K.pre key i }
-        ensures { (f : ℕ → ℕ) → ((i r : ℕ) → i < n → K.post key i r → r ≡ f i) → Linked f n result.heads result.links }
+        ensures { (f : ℕ → ℕ) → ((i r : ℕ) → i < n → K.post key i r → r ≡ f i) → Linked f n self.new.heads self.new.links }
     {
-        let mut chain = Chain::new();
         for i in 0..n {
-            chain.push(key(i));
+            self.push(i, key(i));
         }
-        chain
     }
 
-    // The next place has key x, and goes in front of its chain. A key that there cannot be has none.
-    fn push(&mut self, x: usize)
-        requires { self.old.count < N }
-        ensures count { self.new.count ≡ self.old.count + 1 }
-        ensures heads { self.new.heads ≡ set self.old.heads x (self.old.count + 1) }
-        ensures links { self.new.links ≡ set self.old.links self.old.count (get_or self.old.heads x 0) }
+    // Place i has key x, and goes in front of its chain. A key that there cannot be has none.
+    fn push(&mut self, i: usize, x: usize)
+        requires { (i < N) × ((y : _) → get_or self.old.heads y 0 ≤ i) }
+        ensures heads { self.new.heads ≡ set self.old.heads x (i + 1) }
+        ensures links { self.new.links ≡ set self.old.links i (get_or self.old.heads x 0) }
+        ensures below { (y : _) → get_or self.new.heads y 0 ≤ i + 1 }
     {
-        let i = self.count;
-        self.count += 1;
         if INDEX <= x {
             self.links[i] = 0;
             return;
@@ -68,8 +61,15 @@ impl<const N: usize> Chain<N> {
     pub(crate) fn places(&self, x: usize) -> Places<'_, N>
         ensures { (result.links.now ≡ self.now.links) × (result.at ≡ head_of self.now.heads x) }
     {
-        let at = if x < INDEX { usize::from(self.heads[x]) } else { 0 };
-        Places { links: &self.links, at }
+        let at = if x < INDEX {
+            usize::from(self.heads[x])
+        } else {
+            0
+        };
+        Places {
+            links: &self.links,
+            at,
+        }
     }
 }
 

@@ -19,7 +19,13 @@ pub(crate) struct Stop {
 }
 
 // Each delay has its own level: that of the arena is not looked at.
-pub(crate) fn search(arena: &Arena, index: &Index, l: Layout, ranks: &mut [u16], masks: &mut [u8]) -> Stop
+pub(crate) fn search(
+    arena: &Arena,
+    index: &Index,
+    l: Layout,
+    ranks: &mut [u16],
+    masks: &mut [u8],
+) -> Stop
     requires { CanSearch arena.now index.now l masks.old ranks.old }
     ensures { (Stopped (view_in arena.now l) l.delay ranks.old ranks.new result)
         × (MasksStopped (view_in arena.now l) result.delay masks.old masks.new) }
@@ -29,12 +35,7 @@ pub(crate) fn search(arena: &Arena, index: &Index, l: Layout, ranks: &mut [u16],
         let level = level_at(arena.positions.len(), l.start, l.actions, d);
         let nodes = level.nodes;
         let here = Arena { level, ..*arena };
-        let rounds = solve_level(
-            &here,
-            index,
-            &mut ranks[..nodes],
-            &mut masks[..nodes],
-        );
+        let rounds = solve_level(&here, index, &mut ranks[..nodes], &mut masks[..nodes]);
         let kept = Kept {
             positions: arena.positions,
             grid: arena.grid,

@@ -38,16 +38,20 @@ impl Worklist<'_> {
         let falls = row_falls(p, level.odd, q);
         let mask = row_mask(p, level.odd, full, q);
         let start = q * level.words;
+        // read once: the loop stores nodes at full speed only where it need not look at the list itself
+        let (ranks, masks, queue) = (&mut *self.ranks, &mut *self.masks, &mut *self.queue);
+        let mut tail = self.tail;
         for k in start..start + level.words {
-            self.masks[k] = mask;
+            masks[k] = mask;
             if falls {
-                self.ranks[k] = 1;
-                self.queue[self.tail] = k as u16;
-                self.tail += 1;
+                ranks[k] = 1;
+                queue[tail] = k as u16;
+                tail += 1;
             } else {
-                self.ranks[k] = 0;
+                ranks[k] = 0;
             }
         }
+        self.tail = tail;
     }
 
     // All nodes.

@@ -1,11 +1,11 @@
 // The reverse of a game: the lines of its U body by the position reached, and the cells of its grid by their target.
-ghost use Rattle.std.specs.Prelude.{◌≡◌};
-ghost use Rattle.solver.specs.code.Sweep.{Indexed};
-ghost use Rattle.solver.specs.code.Views.{indexed};
+ghost use Rattle.std.specs.Prelude.{ℕ};
+ghost use Rattle.solver.specs.code.Chains.{Linked};
+ghost use Rattle.solver.specs.code.Sweep.{index, Indexed};
 
 use crate::chain::Chain;
 use sheet::form::byte;
-use sheet::grid::target;
+use sheet::grid::{Grid, target};
 use sheet::limits::{MOST_MOVES, ROW, ROWS};
 use sheet::moves::line_count;
 
@@ -13,27 +13,29 @@ use sheet::moves::line_count;
 pub(crate) const CELLS: usize = ROWS * ROW;
 
 // A game's moves, as the U body, and the chains of its lines and of the grid's cells.
-#[derive(Drop)]
+#[derive(Clone, Copy)]
 pub(crate) struct Index<'a> {
     pub(crate) moves: &'a [u8],
-    pub(crate) reaching: Chain<MOST_MOVES>,
-    pub(crate) leading: Chain<CELLS>,
+    pub(crate) reaching: &'a Chain<MOST_MOVES>,
+    pub(crate) leading: &'a Chain<CELLS>,
 }
 
-// Both chains, where some delay up to the asked one has pending words.
-pub(crate) fn index_of<'a>(u: &'a [u8], grid: &[[u16; ROW]; ROWS], delay: u8) -> Index<'a>
-    ensures { Indexed u.now grid.now delay (indexed result) }
+// Both chains, where some delay up to the asked one has pending words; no place is linked yet.
+pub(crate) fn link_both(
+    u: &[u8],
+    grid: &Grid,
+    delay: u8,
+    reaching: &mut Chain<MOST_MOVES>,
+    leading: &mut Chain<CELLS>,
+)
+    requires lines { (f : ℕ → ℕ) → Linked f 0 reaching.old.heads reaching.old.links }
+    requires cells { (f : ℕ → ℕ) → Linked f 0 leading.old.heads leading.old.links }
+    ensures { Indexed u.now grid.now delay
+        (index u.now reaching.new.heads reaching.new.links leading.new.heads leading.new.links) }
 {
     if delay < 2 {
-        return Index {
-            moves: u,
-            reaching: Chain::new(),
-            leading: Chain::new(),
-        };
+        return;
     }
-    Index {
-        moves: u,
-        reaching: Chain::of(line_count(u), |i| usize::from(byte(u, 2 * i + 1))),
-        leading: Chain::of(CELLS, |x| usize::from(target(grid, x / ROW, x % ROW))),
-    }
+    reaching.link(line_count(u), |i| usize::from(byte(u, 2 * i + 1)));
+    leading.link(CELLS, |x| usize::from(target(grid, x / ROW, x % ROW)));
 }

@@ -5,8 +5,9 @@ ghost use Rattle.solver.specs.Solving.{solved_by, solving, masks_solved, ranks_s
 ghost use Rattle.solver.specs.code.Search.{Filled};
 ghost use Rattle.solver.specs.code.Views.{game_in, CanFill};
 
+use crate::chain::Chain;
 use crate::delays::{Stop, search};
-use crate::index::index_of;
+use crate::index::{Index, link_both};
 use crate::levels::mask_level;
 use reader::arrays::grid_at;
 use reader::reading::{Layout, read};
@@ -28,7 +29,20 @@ fn fill(arena: &Arena, l: Layout, masks: &mut [u8], ranks: &mut [u16]) -> Stop
     requires { CanFill arena.now l masks.old ranks.old }
     ensures { Filled (game_in arena.now l) l.delay masks.old ranks.old masks.new ranks.new result }
 {
-    let index = index_of(arena.moves, arena.grid, l.delay);
+    let mut reaching = Chain::new();
+    let mut leading = Chain::new();
+    link_both(
+        arena.moves,
+        arena.grid,
+        l.delay,
+        &mut reaching,
+        &mut leading,
+    );
+    let index = Index {
+        moves: arena.moves,
+        reaching: &reaching,
+        leading: &leading,
+    };
     let stop = search(arena, &index, l, ranks, masks);
     let level = level_at(arena.positions.len(), l.start, l.actions, stop.delay);
     let nodes = level.nodes;

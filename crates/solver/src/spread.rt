@@ -63,7 +63,7 @@ impl Index<'_> {
     // At the nodes whose oldest action, played at their position, leads to target t.
     fn mark_callers(&self, spot: Spot, t: usize, work: &mut Worklist)
         ensures { Turned work.old (marks_to spot.n spot.action (listed work.old)
-            (callers self.now.leading.links (spotted spot) (head_of self.now.leading.heads t))) work.new }
+            (callers self.now.leading.now.links (spotted spot) (head_of self.now.leading.now.heads t))) work.new }
     {
         for x in self.leading.places(t) {
             work.mark(spot.n, spot.action, spot.caller_at(x));
@@ -74,7 +74,7 @@ impl Index<'_> {
     fn mark_sources(&self, spot: Spot, word: usize, q: usize, work: &mut Worklist)
         requires { word < word_bound }
         ensures { Turned work.old (marks_to spot.n spot.action (listed work.old)
-            (sources self.now.moves.now self.now.reaching.links (spotted spot) word (head_of self.now.reaching.heads q))) work.new }
+            (sources self.now.moves.now self.now.reaching.now.links (spotted spot) word (head_of self.now.reaching.now.heads q))) work.new }
     {
         for i in self.reaching.places(q) {
             work.mark(spot.n, spot.action, spot.source_at(self.moves, word, i));
@@ -85,10 +85,10 @@ impl Index<'_> {
     // queue has room: every bit is out then.
     fn mark_target(&self, spot: Spot, t: usize, seen: &mut [bool], work: &mut Worklist)
         requires { (t < most_positions)
-            × (Seen self.now.leading.heads self.now.leading.links spot.words spot.younger spot.actions seen.old work.old.masks.now) }
+            × (Seen self.now.leading.now.heads self.now.leading.now.links spot.words spot.younger spot.actions seen.old work.old.masks.now) }
         ensures calls { Turned work.old (marks_to spot.n spot.action (listed work.old)
-            (callers self.now.leading.links (spotted spot) (head_of self.now.leading.heads t))) work.new }
-        ensures notes { Seen self.now.leading.heads self.now.leading.links spot.words spot.younger spot.actions seen.new
+            (callers self.now.leading.now.links (spotted spot) (head_of self.now.leading.now.heads t))) work.new }
+        ensures notes { Seen self.now.leading.now.heads self.now.leading.now.links spot.words spot.younger spot.actions seen.new
             work.new.masks.now }
     {
         let s = t * spot.words + spot.word;
@@ -106,11 +106,11 @@ impl Index<'_> {
 
     // Even delays: a caller's action leads to a position from where a move leads to the fallen node's, q.
     pub(crate) fn spread_even(&self, spot: Spot, q: usize, seen: &mut [bool], work: &mut Worklist)
-        requires { Seen self.now.leading.heads self.now.leading.links spot.words spot.younger spot.actions seen.old work.old.masks.now }
+        requires { Seen self.now.leading.now.heads self.now.leading.now.links spot.words spot.younger spot.actions seen.old work.old.masks.now }
         ensures calls { Turned work.old (marks_to spot.n spot.action (listed work.old)
-            (even_nodes self.now.moves.now self.now.reaching.links self.now.leading.heads self.now.leading.links (spotted spot)
-            (head_of self.now.reaching.heads q))) work.new }
-        ensures notes { Seen self.now.leading.heads self.now.leading.links spot.words spot.younger spot.actions seen.new
+            (even_nodes self.now.moves.now self.now.reaching.now.links self.now.leading.now.heads self.now.leading.now.links (spotted spot)
+            (head_of self.now.reaching.now.heads q))) work.new }
+        ensures notes { Seen self.now.leading.now.heads self.now.leading.now.links spot.words spot.younger spot.actions seen.new
             work.new.masks.now }
     {
         for i in self.reaching.places(q) {
@@ -121,8 +121,8 @@ impl Index<'_> {
     // Odd delays: a move leads to a position from where the oldest action leads to the fallen node's, q.
     pub(crate) fn spread_odd(&self, spot: Spot, q: usize, work: &mut Worklist)
         ensures { Turned work.old (marks_to spot.n spot.action (listed work.old)
-            (odd_nodes self.now.moves.now self.now.reaching.links self.now.reaching.heads self.now.leading.links (spotted spot)
-            (head_of self.now.leading.heads q))) work.new }
+            (odd_nodes self.now.moves.now self.now.reaching.now.links self.now.reaching.now.heads self.now.leading.now.links (spotted spot)
+            (head_of self.now.leading.now.heads q))) work.new }
     {
         for x in self.leading.places(q) {
             self.mark_sources(spot, spot.word_at(x), x / ROW, work);

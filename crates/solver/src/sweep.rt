@@ -41,10 +41,10 @@ impl Round {
 
     // Node j, which fell in round n.
     fn spread(self, index: &Index, j: usize, seen: &mut [bool], work: &mut Worklist)
-        requires { Seen index.now.leading.heads index.now.leading.links self.level.words self.younger self.level.actions seen.old
+        requires { Seen index.now.leading.now.heads index.now.leading.now.links self.level.words self.younger self.level.actions seen.old
             work.old.masks.now }
         ensures calls { Turned work.old (spread_to (indexed index.now) self.level self.younger self.n (listed work.old) j) work.new }
-        ensures notes { Seen index.now.leading.heads index.now.leading.links self.level.words self.younger self.level.actions seen.new
+        ensures notes { Seen index.now.leading.now.heads index.now.leading.now.links self.level.words self.younger self.level.actions seen.new
             work.new.masks.now }
     {
         let spot = self.spot(j);
@@ -57,12 +57,19 @@ impl Round {
     }
 
     // The nodes of rank n, which are the queue's entries from lo up to hi.
-    pub(crate) fn sweep(self, index: &Index, lo: usize, hi: usize, seen: &mut [bool], work: &mut Worklist)
-        requires { (hi ≤ length work.old.queue.now) × (Seen index.now.leading.heads index.now.leading.links self.level.words self.younger
+    pub(crate) fn sweep(
+        self,
+        index: &Index,
+        lo: usize,
+        hi: usize,
+        seen: &mut [bool],
+        work: &mut Worklist,
+    )
+        requires { (hi ≤ length work.old.queue.now) × (Seen index.now.leading.now.heads index.now.leading.now.links self.level.words self.younger
             self.level.actions seen.old work.old.masks.now) }
         ensures calls { Turned work.old (sweep_to (indexed index.now) self.level self.younger self.n (listed work.old) lo (hi - lo))
             work.new }
-        ensures notes { Seen index.now.leading.heads index.now.leading.links self.level.words self.younger self.level.actions seen.new
+        ensures notes { Seen index.now.leading.now.heads index.now.leading.now.links self.level.words self.younger self.level.actions seen.new
             work.new.masks.now }
     {
         for at in lo..hi {

@@ -21,7 +21,13 @@ fn full_mask(actions: usize) -> u8
 }
 
 // The rounds, each from the nodes that fell in the one before, and their number: the last one in which a node fell, or round 1.
-fn all_rounds(arena: &Arena, index: &Index, younger: usize, seen: &mut [bool], work: &mut Worklist) -> u16
+fn all_rounds(
+    arena: &Arena,
+    index: &Index,
+    younger: usize,
+    seen: &mut [bool],
+    work: &mut Worklist,
+) -> u16
     requires { (CanWork arena.now index.now younger) × (length work.old.masks.now ≡ arena.now.level.nodes) × (work.old.tail ≡ 0)
         × (Clear seen.old) }
     ensures { (Same work.old work.new) × (Worked (arena_in arena.now) work.new.ranks.now work.new.masks.now result) }

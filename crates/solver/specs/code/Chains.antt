@@ -1,9 +1,8 @@
 -- Reverse indices as chains. A key has the places 0, 1, .. below a count that have it; a chain leads from the last of them to
 -- the one before. A link is a place + 1, and 0 is the end. Assumes nothing.
 use Rattle.std.specs.Prelude.{ℕ, zero, suc, ◌/◌, ◌%◌, ◌≤◌, ◌<◌, ◌≡◌, cond, List, [], ◌∷◌, eqb, ltb, length, get_or}
-use Rattle.sheet.specs.Limits.{most_actions, most_moves}
-use Rattle.sheet.specs.code.Arrays.{index_entries, mark_of, target_at, to_at, line_count}
-use Rattle.solver.specs.code.Sizes.{most_cells}
+use Rattle.sheet.specs.Limits.{most_actions}
+use Rattle.sheet.specs.code.Arrays.{index_entries, mark_of, target_at}
 
 -- the link to the last place below n with key x
 unfoldable pub last_of : (ℕ → ℕ) → ℕ → ℕ → ℕ
@@ -23,15 +22,6 @@ chain links e = chain_of links e e
 -- the first link of a key's chain; there is none for keys above those that there can be
 unfoldable pub head_of : List ℕ → ℕ → ℕ
 head_of heads x = cond (ltb x index_entries) (get_or heads x 0) 0
-
--- links go down
-pub record Down (links : List ℕ) : Type 0 where
-  pub link : (i : ℕ) → get_or links i 0 ≤ i
-
--- so chains end, over so many places
-pub record Chains (count : ℕ) (heads links : List ℕ) : Type 0 where
-  pub head : (x : ℕ) → head_of heads x ≤ count
-  pub down : Down links
 
 -- the chains of the first n places, by their keys; links of other places are 0
 pub record Linked (key : ℕ → ℕ) (n : ℕ) (heads links : List ℕ) : Type 0 where

@@ -32,7 +32,7 @@ abbrev pub spotted : Spot → spread.Spot
 spotted s = spread.spot s.n s.words s.younger s.actions s.word s.rest s.action
 
 abbrev pub indexed : Index → sweep.Index
-indexed x = sweep.index x.moves.now x.reaching.heads x.reaching.links x.leading.heads x.leading.links
+indexed x = sweep.index x.moves.now x.reaching.now.heads x.reaching.now.links x.leading.now.heads x.leading.now.links
 
 -- the arena and the index of a level that can be solved by the worklist, where a word has so many younger words; and of any level
 abbrev pub CanWork : Arena → Index → ℕ → Type 0

@@ -38,7 +38,7 @@ pub fill-stop-requires : goal.fill-stop-requires
 fill-stop-requires c = (
   c.first_lines-firsts.ensures,
   fillable_read _ _ c.read-reading.ensures _ c.in-Ok.is _ c.part-positions.ensures _ c.level_at-level.ensures _ _ c.if-masks-level.false c.if-ranks-level.false _ _
-  c.grid_at-grid.ensures c.part-moves.ensures,
+      c.grid_at-grid.ensures c.part-moves.ensures,
 )
 
 pub returns-then-stop : goal.returns-then-stop

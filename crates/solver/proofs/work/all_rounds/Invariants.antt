@@ -10,7 +10,7 @@ abbrev pub invariant-rounds : goal.invariant-rounds
 invariant-rounds l =
     Same l.fn.work l.work
     × Rounding (arena_in l.arena) l.n l.lo l.hi (listed l.work)
-    × Seen l.index.leading.heads l.index.leading.links l.arena.level.words l.younger l.arena.level.actions l.seen l.work.masks.now
+    × Seen l.index.leading.now.heads l.index.leading.now.links l.arena.level.words l.younger l.arena.level.actions l.seen l.work.masks.now
 
 abbrev pub decreases-rounds : goal.decreases-rounds
 decreases-rounds l = l.arena.level.nodes - l.hi

@@ -1,5 +1,5 @@
 -- `work` meets its contract. Assumes nothing.
-use Rattle.std.proofs.Common.{Bool, false, sym, refl, rules}
+use Rattle.std.proofs.Common.{Bool, false, refl}
 use lib.ListN.{length-replicate, get_or-replicate}
 use Rattle.sheet.specs.Limits.{most_nodes}
 use Rattle.solver.proofs.SeenLaws.{clear_part}

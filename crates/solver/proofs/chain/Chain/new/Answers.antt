@@ -15,5 +15,5 @@ invariant_of-result-clause-links_end g c = λ i. omega (arith, zeros g.row.N i)
 pub invariant_of-result-clause-whole : goal.invariant_of-result-clause-whole
 invariant_of-result-clause-whole g c = length-replicate {A = ℕ} g.row.N 0
 
-pub returns-clause-linked : goal.returns-clause-linked
-returns-clause-linked g c = λ f. linked_none f _ _ refl (zeros 257) (zeros g.row.N)
+pub returns : goal.returns
+returns g c = λ f. linked_none f _ _ refl (zeros 257) (zeros g.row.N)

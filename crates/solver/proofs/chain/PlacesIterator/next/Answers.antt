@@ -1,7 +1,5 @@
 -- `next` meets its contract. Assumes nothing.
-use Rattle.std.proofs.Common.{rules, arith, refl, ap, length}
-use Rattle.std.proofs.lemmas.Grind.{common_steps}
-use Rattle.solver.specs.code.Chains.{chain}
+use Rattle.std.proofs.Common.{rules}
 use Rattle.solver.proofs.ChainLaws.{chain_step, chain_end}
 use Rattle.solver.proofs.chain.PlacesIterator.next.Goals as goal
 
@@ -10,4 +8,3 @@ returns-then-self-eq0-clause-steps c = search (rules, chain_end)
 
 pub returns-clause-steps : goal.returns-clause-steps
 returns-clause-steps c = search (rules, chain_step)
-

@@ -9,5 +9,5 @@ use Rattle.solver.proofs.index.Index.mark_callers.Given as goal
 abbrev pub invariant-loop-x : goal.invariant-loop-x
 invariant-loop-x l =
     Same l.initial.work l.work
-    × (marks_to l.spot.n l.spot.action (listed l.initial.work) (callers l.self.leading.links (spotted l.spot) (head_of l.self.leading.heads l.t))
+    × (marks_to l.spot.n l.spot.action (listed l.initial.work) (callers l.self.leading.now.links (spotted l.spot) (head_of l.self.leading.now.heads l.t))
     ≡ marks_to l.spot.n l.spot.action (listed l.work) (map (caller_at (spotted l.spot)) (chain l.x-iterator.links.now l.x-iterator.at)))

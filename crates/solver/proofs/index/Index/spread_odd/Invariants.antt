@@ -11,8 +11,8 @@ abbrev pub invariant-loop-x : goal.invariant-loop-x
 invariant-loop-x l =
     let u = l.self.moves.now in
     let s = spotted l.spot in
-    let a = l.self.reaching in
+    let a = l.self.reaching.now in
     Same l.initial.work l.work
-    × (marks_to l.spot.n l.spot.action (listed l.initial.work) (odd_nodes u a.links a.heads l.self.leading.links s (head_of l.self.leading.heads l.q))
+    × (marks_to l.spot.n l.spot.action (listed l.initial.work) (odd_nodes u a.links a.heads l.self.leading.now.links s (head_of l.self.leading.now.heads l.q))
     ≡ marks_to l.spot.n l.spot.action (listed l.work)
     (gather (λ x. sources u a.links s (word_at s x) (head_of a.heads (x / most_actions))) (chain l.x-iterator.links.now l.x-iterator.at)))

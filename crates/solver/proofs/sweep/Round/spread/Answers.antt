@@ -1,5 +1,4 @@
 -- `spread` meets its contract. Assumes nothing.
-use Rattle.std.proofs.Common.{rules}
 use Rattle.solver.specs.code.Views.{spotted, indexed}
 use Rattle.solver.proofs.SeenLaws.{seen_kept}
 use Rattle.solver.proofs.SweepLaws.{spread_odd_is, spread_even_is}

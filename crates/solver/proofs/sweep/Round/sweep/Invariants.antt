@@ -9,6 +9,6 @@ abbrev pub invariant-loop-at : goal.invariant-loop-at
 invariant-loop-at l =
     let s = l.self in
     Same l.initial.work l.work
-    × Seen l.index.leading.heads l.index.leading.links s.level.words s.younger s.level.actions l.seen l.work.masks.now
+    × Seen l.index.leading.now.heads l.index.leading.now.links s.level.words s.younger s.level.actions l.seen l.work.masks.now
     × (sweep_to (indexed l.index) s.level s.younger s.n (listed l.initial.work) l.lo (l.hi - l.lo)
     ≡ sweep_to (indexed l.index) s.level s.younger s.n (listed l.work) l.at (l.hi - l.at))

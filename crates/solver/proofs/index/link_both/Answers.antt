@@ -1,10 +1,10 @@
--- `index_of` meets its contract. Assumes nothing.
+-- `link_both` meets its contract. Assumes nothing.
 use Rattle.std.proofs.Common.{rules, refl}
 use Rattle.sheet.specs.code.Arrays.{to_at}
 use Rattle.solver.specs.code.Chains.{cell_key}
 use Rattle.solver.proofs.ChainLaws.{cell_mark}
 use Rattle.solver.proofs.SweepLaws.{index_none, index_both}
-use Rattle.solver.proofs.index.index_of.Goals as goal
+use Rattle.solver.proofs.index.link_both.Goals as goal
 
 pub returns-then-delay-lt2 : goal.returns-then-delay-lt2
 returns-then-delay-lt2 c = index_none _ _ _ _ refl c.if-delay-lt2.true
@@ -12,5 +12,5 @@ returns-then-delay-lt2 c = index_none _ _ _ _ refl c.if-delay-lt2.true
 pub returns : goal.returns
 unfolding to_at
 returns c =
-  index_both _ _ _ _ refl (rw c.line_count.ensures at (c.of.ensures (to_at c.args.u.now) (λ i r h e. search rules)))
-  (c.of-2.ensures (cell_key c.args.grid.now) (λ i r h e. search (rules, cell_mark)))
+    index_both _ _ _ _ refl (rw c.line_count.ensures at (c.link.ensures (to_at c.args.u.now) (λ i r h e. search rules)))
+    (c.link-2.ensures (cell_key c.args.grid.now) (λ i r h e. search (rules, cell_mark)))
