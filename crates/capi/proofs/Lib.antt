@@ -1,3 +1,3 @@
--- Laws of specs/, on which the proofs of the functions rest, and the theorems over a state's bytes.
+-- The theorems over what C callers are left, and over a state's bytes.
 pub mod ExportLaws
 pub mod StateBytes

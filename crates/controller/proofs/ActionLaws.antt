@@ -92,9 +92,6 @@ module _ (A n v i : ℕ) where
           let q : n - (k - i) ≡ suc (n - 1 - (k - i)) = omega arith in
           rw q (rw (le-ltb i (n - 1 - (k - i)) (omega arith)))
 
-pub digit_small : (left A : ℕ) → 0 < A → A < 256 → left % A < 256
-digit_small left A h l = let q : left % A < A = mod-lt left h in omega arith
-
 -- the node of position p and the pending word; u is the node of the actions from k on, x the action before them
 
 length_small : (n : ℕ) (l : List ℕ) → length (take n l) ≤ n

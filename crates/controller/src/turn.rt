@@ -31,7 +31,7 @@ pub(crate) fn action_of(actions: u8, n: usize, word: usize, i: usize) -> u8
     let base = usize::from(actions);
     let mut left = word;
     for _younger in i..n - 1 {
-        left = left / base;
+        left /= base;
     }
     (left % base) as u8
 }
@@ -65,5 +65,5 @@ pub(crate) fn mask_at(l: TableLayout, masks: &[u8], position: u8, last: [u8; HEL
 pub(crate) fn lowest(mask: u8) -> u8
     ensures { result ≡ count_trailing_zeros 8 mask }
 {
-    u8::trailing_zeros(mask) as u8
+    mask.trailing_zeros() as u8
 }

@@ -25,11 +25,9 @@ fn held_ok(actions: u8, last: [u8; HELD], n: usize) -> bool
 fn within_at(highest: u8, window: [Slot; SLOTS], k: usize) -> bool
     ensures { result ≡ within_at highest window k }
 {
-    if SLOTS <= k {
-        return true;
-    }
-    window[k]
-        .observed()
+    window
+        .get(k)
+        .and_then(|slot| slot.observed())
         .is_none_or(|position| position <= highest)
 }
 
