@@ -49,20 +49,24 @@ pub extern "C" fn lq_make(
         ≡ made_reached sheet.now masks.old ranks.old out.old reached.old }
 {
     match make(sheet, masks, ranks, out) {
-        Ok(Making::Winning {
-            size: length,
-            reached: number,
-        }) => {
+        Ok(
+            Making::Winning {
+                size: length,
+                reached: number,
+            },
+        ) => {
             *size = length;
             *losing = WINS;
             *reached = number;
             0
         }
-        Ok(Making::Losing {
-            delay,
-            size: length,
-            reached: number,
-        }) => {
+        Ok(
+            Making::Losing {
+                delay,
+                size: length,
+                reached: number,
+            },
+        ) => {
             *size = length;
             *losing = delay;
             *reached = number;

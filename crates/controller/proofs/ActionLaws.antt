@@ -6,7 +6,7 @@ use mathlib.Core.Bool.{Bool, true, false, not, cond}
 use mathlib.Core.List.{List}
 use mathlib.Core.Logic.{⊎_elim}
 use native.Mathlib.Omega.{arith}
-use native.Mathlib.Nat.{le_of_lt, lt_of_lt_of_le, mul-le-mul, mod-lt, pow-zero, pow-suc, pow-le-pow_right, add-zero, mul-one, mul_assoc, add_assoc, add-mul}
+use native.Mathlib.Nat.{le_of_lt, lt_of_lt_of_le, mul-le-mul, pow-zero, pow-suc, pow-le-pow_right, add-zero, mul-one, mul_assoc, add_assoc, add-mul}
 use lib.Dec.{eqb, ltb}
 use lib.ListN.{length, get_or, take, drop, length-take, drop_of_length-le}
 use lib.Seq.{length-take-le, drop-cons, get_or-take}
