@@ -1,5 +1,5 @@
 -- The completed grid, as the code of src/hold.rt makes it, and that its targets are the held ones. Assumes nothing.
-use Prim.Native.Nat.{ℕ, ◌/◌, ◌≤◌, ◌<◌}
+use Prim.Native.Nat.{ℕ, ◌≤◌, ◌<◌}
 use mathlib.Core.Path.{◌≡◌, refl, sym, ◌∙◌, ap}
 use mathlib.Core.Bool.{Bool, true, false, cond}
 use mathlib.Core.Logic.{⊎_elim}
@@ -17,25 +17,23 @@ use Rattle.theory.proofs.Filling.{filled, filled_none, filled_more, filled_done}
 use Rattle.theory.proofs.Holding.{or_else_first, or_else_second}
 use Rattle.sheet.specs.Limits.{most_positions, most_actions}
 use Rattle.sheet.specs.code.Arrays.{absent_mark, unmark, grid_of, target_at}
-use Rattle.sheet.proofs.GridLaws.{length_row, length_grid, row_at, unmark_absent, unmark_to, target_past, target_no_action, target_in_lem}
-use Rattle.gates.specs.code.Held.{cell_held, row_held, row_held_at, WholeRows, grid_held, held_grid}
+use Rattle.sheet.proofs.GridLaws.{unmark_absent, unmark_to, target_past, target_no_action, target_in_lem}
+use Rattle.gates.specs.code.Held.{cell_held, row_held, row_held_at, grid_held, held_grid}
 
 -- one cell
 
 module _ (actions : ℕ) (row : List ℕ) (x : ℕ) where
-  pub cell_own : (get_or row x 0 ≡ absent_mark → ⊥) → get_or row x 0 ≡ cell_held actions row x
+  cell_own : (get_or row x 0 ≡ absent_mark → ⊥) → get_or row x 0 ≡ cell_held actions row x
   unfolding cell_held
   cell_own n = rw (both_none _ (ltb x actions) (ne_eqb _ _ n))
 
-  pub cell_beyond : actions ≤ x → get_or row x 0 ≡ cell_held actions row x
+  cell_beyond : actions ≤ x → get_or row x 0 ≡ cell_held actions row x
   unfolding cell_held
   cell_beyond h = rw (both_false _ _ (le-ltb x actions h))
 
-  pub cell_first : get_or row x 0 ≡ absent_mark → x < actions → get_or row 0 0 ≡ cell_held actions row x
+  cell_first : get_or row x 0 ≡ absent_mark → x < actions → get_or row 0 0 ≡ cell_held actions row x
   unfolding cell_held
   cell_first e h = rw (both_true _ _ (eq-eqb _ _ e) (lt-ltb x actions h))
-
-pub ruleset cells = (rules, cell_own, cell_beyond, cell_first)
 
 -- a row, and all of them
 
@@ -58,11 +56,6 @@ row_still actions row n e =
     sym
     (get_d_tabulate (cell_held actions row) most_actions x 0 (rw n at h) ∙ still_cell actions row x e))
 
-pub row_done : (actions : ℕ) (row l : List ℕ) (k : ℕ) {m : List ℕ} → m ≡ filled (cell_held actions row) k l → length l ≡ most_actions → k ≤ most_actions
-    → most_actions ≤ k → m ≡ row_held actions row
-unfolding row_held
-row_done actions row l k e n h g = filled_done (cell_held actions row) l k most_actions e n h g
-
 pub row_next : (actions : ℕ) (g : List (List ℕ)) (q : ℕ) {r : List ℕ} → r ≡ row_held actions (get_or g q []) → r ≡ row_held_at actions g q
 unfolding row_held_at
 row_next actions g q e = e
@@ -72,31 +65,7 @@ pub grid_done : (actions : ℕ) (g l : List (List ℕ)) (k : ℕ) {m : List (Lis
 unfolding grid_held
 grid_done actions g l k e n h i = filled_done (row_held_at actions g) l k most_positions e n h i
 
-pub row_whole : (g : List (List ℕ)) (q : ℕ) → WholeRows g → q < most_positions → length (get_or g q []) ≡ most_actions
-row_whole g q w h = w.row q h
-
-pub ruleset holding = (rules, filled_none, filled_more, row_still, row_done, row_next, row_whole, grid_done)
-
--- the grid of a C body
-
-module _ (actions : ℕ) (c : List ℕ) {g : List (List ℕ)} (e : g ≡ grid_of c) where
-  pub whole_grid : WholeRows g
-  unfolding grid_of
-  whole_grid =
-      record {
-        rows = ap length e ∙ length_grid c (length c / 3);
-        row = λ q h. ap length (ap (λ (x : List (List ℕ)). get_or x q []) e ∙ row_at c (length c / 3) q h) ∙ length_row c (length c / 3) q;
-      }
-
-  pub grid_held_lem : {h : Bool} {r : List (List ℕ)} → h ≡ true → r ≡ grid_held actions g → r ≡ held_grid h actions c
-  unfolding held_grid
-  grid_held_lem t j = rw (j, e, t)
-
-  pub grid_plain : {h : Bool} → h ≡ false → g ≡ held_grid h actions c
-  unfolding held_grid
-  grid_plain f = rw (f, e)
-
-pub ruleset completing = (rules, whole_grid, grid_held_lem, grid_plain)
+pub ruleset holding = (rules, filled_none, filled_more, row_next, grid_done)
 
 -- what a completed grid says
 

@@ -1,3 +1,2 @@
 -- The laws of the code of src/, and what a completed grid says.
-pub mod KindLaws
 pub mod HoldLaws

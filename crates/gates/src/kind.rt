@@ -6,19 +6,17 @@ use sheet::form::{body, byte, placed};
 use sheet::limits::GATED_CONTENTS;
 
 // Has the sheet a G body, by its first offset?
+#[tactic(auto, unfolding(sheet::specs::Bodies::is_gated, sheet::specs::Form::placed_at))]
 pub fn is_gated(s: &[u8]) -> bool
     ensures { result ≡ is_gated s.now }
 {
-    let first = placed(s, 0);
-    first.at == GATED_CONTENTS
+    placed(s, 0).at == GATED_CONTENTS
 }
 
 // Do its gates hold? Where there is no G, its place in the contents is not read.
+#[tactic(auto, unfolding(sheet::specs::Bodies::is_holding, theory::specs::Fold::both))]
 pub fn is_holding(s: &[u8]) -> bool
     ensures { result ≡ is_holding s.now }
 {
-    if !is_gated(s) {
-        return false;
-    }
-    byte(body(s, 4), 0) == 1
+    is_gated(s) && byte(body(s, 4), 0) == 1
 }

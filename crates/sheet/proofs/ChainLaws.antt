@@ -1,7 +1,7 @@
 -- What a chain of iterators asks of each element or index, in the project's own words (theory/specs/Fold.antt): p is the test by index.
 -- Assumes nothing.
-use Prim.Native.Nat.{ℕ, suc, ◌+◌, ◌<◌}
-use mathlib.Core.Path.{◌≡◌, refl, sym, ◌∙◌, ap}
+use Prim.Native.Nat.{ℕ, zero, suc, ◌+◌, ◌<◌}
+use mathlib.Core.Path.{◌≡◌, refl, sym, ◌∙◌, ap, subst}
 use mathlib.Core.Bool.{Bool, true, false}
 use mathlib.Core.List.{List, [], ◌∷◌}
 use mathlib.Core.Logic.{⊎_elim}
@@ -9,6 +9,8 @@ use native.Mathlib.Omega.{arith}
 use denote.Param.Members.{Mut}
 use denote.Ref.{Bor}
 use lib.ListN.{length, get_or}
+use lib.Seq.{ext_get_or}
+use Rattle.std.specs.Array.{IsFromFnResult, IsFromFnResultFrom}
 use Rattle.std.proofs.Common.{Option, Iter}
 use Rattle.std.specs.declared.ops.Range.{Range}
 use Rattle.std.specs.Slice.Iter.{iter_rest}
@@ -21,8 +23,8 @@ use Rattle.std.proofs.lemmas.Iterator.{YieldsList-from_range, YieldsList-from_sl
 use Rattle.std.proofs.lemmas.Iterator.Search.{all_from_yields_List, any_from_yields_List}
 use Rattle.std.proofs.lemmas.List.Folds.{list_all_at, list_any_at}
 use Rattle.std.proofs.lemmas.List.FromFn.{length-range_with_len, get_or-range_with_len}
-use Rattle.theory.specs.Fold.{all_below, any_below}
-use Rattle.theory.proofs.Fold.{bool, not_both, same_test, all_at, all_below_lem, any_some, any_below_none}
+use Rattle.theory.specs.Fold.{all_below, any_below, tabulate}
+use Rattle.theory.proofs.Fold.{bool, not_both, same_test, all_at, all_below_lem, any_some, any_below_none, length_tabulate, get_d_tabulate}
 
 module _ {A : Type 0} (test : A → Bool) (d : A) where
   all_pass : (xs : List A) → ((k : ℕ) → k < length xs → test (get_or xs k d) ≡ true) → list_all test xs ≡ true
@@ -104,3 +106,24 @@ module _ {A F : Type 0} {g : Mut F (Bor A × Unit {0}) Bool} {s u : Iter A} {f :
       → r ≡ any_below p (length xs)
   any_slice ran said =
       any_from_yields_List test u f r ran (YieldsList-from_slice xs begins) said ∙ any_elements test d p xs same
+
+-- what `array::from_fn` makes, by what each call of the closure answers
+
+module _ {F B : Type 0} {g : Mut F (ℕ × Unit {0}) B} {f : F} (ys : List B) (h : ℕ → B)
+    (said : (i : ℕ) (y : B) (q : F) → Called g f (i, tt) y q → (q ≡ f) × (y ≡ h i)) where
+  entries_from : (i m : ℕ) (p : F) → p ≡ f → IsFromFnResultFrom g p ys i m → (k : ℕ) (d : B) → k < m → get_or ys (i + k) d ≡ h (i + k)
+  entries_from i zero p e r k d l = absurd (omega arith)
+  entries_from i (suc m) p e r zero d l =
+      let here : i ≡ i + 0 = omega arith in
+      rw (← here) (r.2.1 d ∙ (said i r.1 r.0 (subst (λ (x : F). Called g x (i, tt) r.1 r.0) e r.3)).1)
+  entries_from i (suc m) p e r (suc k) d l =
+      let next : i + 1 + k ≡ i + suc k = omega arith in
+      rw (← next) (entries_from (i + 1) m r.0 (said i r.1 r.0 (subst (λ (x : F). Called g x (i, tt) r.1 r.0) e r.3)).0 r.4 k d (omega arith))
+
+  pub from_fn_makes : (n : ℕ) → IsFromFnResult g f ys n → ys ≡ tabulate h 0 n
+  from_fn_makes n r =
+      ext_get_or (h 0) _ _ (r.long ∙ sym (length_tabulate h 0 n))
+      (λ k l.
+      let m : k < n = rw r.long at l in
+      let z : 0 + k ≡ k = omega arith in
+      rw z at (entries_from 0 n f refl r.each k (h 0) m) ∙ sym (get_d_tabulate h n k (h 0) m))

@@ -4,7 +4,7 @@ use Prim.Native.Nat.{ℕ, ◌+◌, ◌*◌, ◌/◌, ◌%◌, ◌^◌, ◌≤◌
 use mathlib.Core.Path.{◌≡◌, refl, sym, ◌∙◌, ap, ap₂}
 use mathlib.Core.Bool.{Bool, true, false, not}
 use mathlib.Core.Logic.{⊎_elim}
-use mathlib.Core.List.{List, []}
+use mathlib.Core.List.{List, [], ◌∷◌}
 use native.Mathlib.Omega.{arith}
 use native.Mathlib.Nat.{div-eq_of_lt, div-lt_iff_lt-mul, mul-le-mul, mul-one, one-mul, pow-zero, pow-suc}
 use native.Mathlib.Numerals.{add-one}
@@ -16,12 +16,14 @@ use mir.Syntax.{w64}
 use mir.Val.{Fits}
 use borrow.Author.Rules.{rules}
 use borrow.Author.Tests.{leb-true, le-leb, lt-leb, lt-ltb, le-ltb, eq-eqb, ne_eqb}
+use Rattle.std.specs.List.{fold, list_all}
+use Rattle.sheet.proofs.ChainLaws.{all_elements}
 use Rattle.theory.specs.Fold.{both, all_below, any_below}
 use Rattle.theory.specs.Answer.{Answer, refused, accepted, check, on_accepted}
 use Rattle.theory.specs.Strategy.{initial_length}
 use Rattle.theory.specs.Table.{Table, flagged}
 use Rattle.theory.proofs.Answer.{check_passed, check_failed, check_both}
-use Rattle.theory.proofs.Fold.{below?, both_true, both_false, both_left, both_right, all_none, all_suc, all_below_lem, any_none, any_holds, any_again, any_done, both_none, both_second, failed, passed}
+use Rattle.theory.proofs.Fold.{bool, below?, both_first, both_true, both_false, both_left, both_right, all_none, all_suc, all_below_lem, any_none, any_holds, any_again, any_done, both_none, both_second, failed, passed}
 use Rattle.sheet.specs.Limits.{width, most_actions, most_delay, most_nodes}
 use Rattle.sheet.specs.Form.{contents_ok, placed_at, part_at, body_of}
 use Rattle.sheet.specs.Size.{nodes_of}
@@ -95,11 +97,17 @@ or_below n a x =
     (λ (h : 2 ^ n ≤ a). le-ltb (bit_or a x) (2 ^ n) (omega (arith, or_add_and a x, and_le_r a x)) ∙ sym (both_none _ _ (le-ltb _ _ h)))
     (below? a (2 ^ n))
 
-module _ (n : ℕ) (b : List ℕ) where
-  pub bits_none : length b ≡ 0 → true ≡ bytes_below (2 ^ n) b
-  unfolding bytes_below
-  bits_none e = sym (ap (all_below (below_at (2 ^ n) b)) e ∙ all_none (below_at (2 ^ n) b))
+fold_below : (n a : ℕ) (b : List ℕ) → ltb (fold bit_or a b) (2 ^ n) ≡ both (ltb a (2 ^ n)) (list_all (λ x. ltb x (2 ^ n)) b)
+fold_below n a [] = sym (both_first _ _ refl)
+fold_below n a (x ∷ b) =
+    fold_below n (bit_or a x) b
+    ∙ ap (λ t. both t (list_all (λ x. ltb x (2 ^ n)) b)) (or_below n a x)
+    ∙ ⊎_elim
+    (λ (t : ltb x (2 ^ n) ≡ true). rw (t, both_first (ltb a (2 ^ n)) true refl))
+    (λ (f : ltb x (2 ^ n) ≡ false). rw (f, both_false (ltb a (2 ^ n)) false refl) (both_none _ _ refl))
+    (bool (ltb x (2 ^ n)))
 
+module _ (n : ℕ) (b : List ℕ) where
   -- every byte is below 256
   pub bits_all : ((k : ℕ) → get_or b k 0 < 256) → 8 ≤ n → true ≡ bytes_below (2 ^ n) b
   unfolding bytes_below below_at
@@ -107,21 +115,14 @@ module _ (n : ℕ) (b : List ℕ) where
       let most : 256 ≤ 2 ^ n = pow_mono h in
       sym (all_below_lem (below_at (2 ^ n) b) (length b) (λ k i. lt-ltb (get_or b k 0) (2 ^ n) (omega (arith, small k))))
 
-  pub bits_more : (k a : ℕ) → ltb a (2 ^ n) ≡ all_below (below_at (2 ^ n) b) k
-      → ltb (bit_or a (get_or b k 0)) (2 ^ n) ≡ all_below (below_at (2 ^ n) b) (k + 1)
-  unfolding below_at
-  bits_more k a e = or_below n a (get_or b k 0) ∙ ap (λ t. both t (ltb (get_or b k 0) (2 ^ n))) e ∙ sym (rw add-one (all_suc (below_at (2 ^ n) b) k))
-
-  pub bits_first : (a : ℕ) → a ≡ get_or b 0 0 → ltb a (2 ^ n) ≡ all_below (below_at (2 ^ n) b) 1
-  unfolding below_at
-  bits_first a e = ap (λ x. ltb x (2 ^ n)) e ∙ sym (all_suc (below_at (2 ^ n) b) 0 ∙ both_second _ _ (all_none (below_at (2 ^ n) b)))
-
-  pub bits_done : (k a : ℕ) → k ≤ length b → length b ≤ k → ltb a (2 ^ n) ≡ all_below (below_at (2 ^ n) b) k
-      → eqb (a / 2 ^ n) 0 ≡ bytes_below (2 ^ n) b
-  unfolding bytes_below
-  bits_done k a l g e =
-      let q : k ≡ length b = omega arith in
-      quotient ∙ e ∙ ap (all_below (below_at (2 ^ n) b)) q
+  pub bits_folded : {a : ℕ} → a ≡ fold bit_or 0 b → eqb (a / 2 ^ n) 0 ≡ bytes_below (2 ^ n) b
+  unfolding bytes_below below_at
+  bits_folded {a} e =
+      quotient
+      ∙ ap (λ a. ltb a (2 ^ n)) e
+      ∙ fold_below n 0 b
+      ∙ both_second _ _ (lt-ltb 0 (2 ^ n) (pow_pos n))
+      ∙ all_elements (λ x. ltb x (2 ^ n)) 0 (below_at (2 ^ n) b) b (λ k l. refl)
     where
       quotient : eqb (a / 2 ^ n) 0 ≡ ltb a (2 ^ n)
       quotient =
@@ -129,8 +130,6 @@ module _ (n : ℕ) (b : List ℕ) where
           (λ (h : a < 2 ^ n). eq-eqb _ _ (div-eq_of_lt h) ∙ sym (lt-ltb _ _ h))
           (λ (h : 2 ^ n ≤ a). ne_eqb (a / 2 ^ n) 0 (λ (z : a / 2 ^ n ≡ 0). omega (arith, (div-lt_iff_lt-mul {k = 2 ^ n} {x = a} {y = 1} (pow_pos n)).0 (omega arith))) ∙ sym (le-ltb _ _ h))
           (below? a (2 ^ n))
-
-pub ruleset bits = (rules, bits_none, bits_all, bits_first, bits_more, bits_done)
 
 -- 11, the number of nodes and the W and T bodies; d and v are the delay and the highest position as numbers, p is a power, n how many
 -- nodes there are, x how many first words, r a test's result
@@ -289,21 +288,6 @@ module _ (w : List ℕ) (v : ℕ) where
   pub flag_set : (get_or w v 0 ≡ 0 → ⊥) → flagged (words_of w) v ≡ true
   unfolding flagged
   flag_set e = rw (ne_eqb _ _ e)
-
-  pub flag_found : v < length w → (get_or w v 0 ≡ 0 → ⊥) → true ≡ some_flagged (record { flags = w; masks = [] })
-  unfolding some_flagged
-  flag_found h e = sym (any_holds (flagged (words_of w)) v (length w) h (flag_set e))
-
-  pub flag_again : any_below (flagged (record { flags = w; masks = [] })) v ≡ false → get_or w v 0 ≡ 0
-      → any_below (flagged (record { flags = w; masks = [] })) (v + 1) ≡ false
-  flag_again a e = any_again (flagged (words_of w)) v {r = false} a (sym (flag_none e)) refl
-
-  pub flags_done : v ≤ length w → length w ≤ v → any_below (flagged (record { flags = w; masks = [] })) v ≡ false
-      → false ≡ some_flagged (record { flags = w; masks = [] })
-  unfolding some_flagged
-  flags_done h g a = sym (any_done (flagged (words_of w)) h g a)
-
-pub ruleset flags = (rules, any_none, flag_found, flag_again, flags_done)
 
 -- 12, after the shape
 

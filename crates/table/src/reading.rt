@@ -26,40 +26,27 @@ pub struct TableLayout {
     pub masks: Place,
 }
 
+#[tactic(auto, unfolding(crate::specs::TableSheet::table_layout))]
 fn layout_at(s: &[u8]) -> TableLayout
     ensures { result ≡ table_layout s.now }
 {
     let h = body(s, 0);
-    let start = byte(h, 0);
-    let actions = byte(h, 1);
-    let delay = byte(h, 2);
-    let highest = byte(h, 3);
-    let flags = placed(s, 1);
-    let masks = placed(s, 2);
     TableLayout {
-        start,
-        actions,
-        delay,
-        highest,
-        flags,
-        masks,
+        start: byte(h, 0),
+        actions: byte(h, 1),
+        delay: byte(h, 2),
+        highest: byte(h, 3),
+        flags: placed(s, 1),
+        masks: placed(s, 2),
     }
 }
 
 // Check 11, the numbers of the S body one by one.
+#[tactic(auto, unfolding(crate::specs::code::Steps::ranges_ok, theory::specs::Fold::both))]
 fn numbers_ok(l: TableLayout) -> bool
     ensures { result ≡ ranges_ok (says l [] []) }
 {
-    if l.actions < 1 {
-        return false;
-    }
-    if MOST_ACTIONS < l.actions {
-        return false;
-    }
-    if MOST_DELAY < l.delay {
-        return false;
-    }
-    l.start <= l.highest
+    (1..=MOST_ACTIONS).contains(&l.actions) && l.delay <= MOST_DELAY && l.start <= l.highest
 }
 
 // How many first words there are where so many words are pending: as many, and at an odd delay as many for each action.
@@ -67,28 +54,15 @@ fn first_words(actions: u8, delay: u8, pending: usize) -> usize
     requires { pending ≤ most_power }
     ensures { result ≡ pending * actions ^ (delay % 2) }
 {
-    if delay % 2 == 0 {
-        return pending;
-    }
-    pending * usize::from(actions)
+    if delay % 2 == 0 { pending } else { pending * usize::from(actions) }
 }
 
-// Has no byte a bit at n or above? Every call of the controller reads its whole sheet: the loop has no exit, so that it compiles to
-// vector instructions, and where a byte has no such bit there is none.
+// Has no byte a bit at n or above? Every call of the controller reads its whole sheet: the fold has no exit, so that it compiles to
+// vector instructions, and where no byte has such a bit they have none together.
 fn bits_below(n: u8, b: &[u8]) -> bool
     ensures { result ≡ bytes_below (2 ^ n) b.now }
 {
-    if b.len() == 0 {
-        return true;
-    }
-    let mut all = b[0];
-    if BYTE <= n {
-        return true;
-    }
-    for k in 1..b.len() {
-        all = all | b[k];
-    }
-    all >> n == 0
+    BYTE <= n || b.iter().fold(0, |all, x| all | x) >> n == 0
 }
 
 // Check 11, the number of nodes, and the W and T bodies. Small tables are read in a few nanoseconds, so the power is worked out once.
@@ -98,19 +72,11 @@ fn bodies_ok(l: TableLayout, w: &[u8], t: &[u8]) -> bool
 {
     let pending = power(l.actions, usize::from(l.delay) / 2);
     let nodes = (usize::from(l.highest) + 1) * pending;
-    if MOST_NODES < nodes {
-        return false;
-    }
-    if t.len() != nodes {
-        return false;
-    }
-    if w.len() != first_words(l.actions, l.delay, pending) {
-        return false;
-    }
-    if !bits_below(1, w) {
-        return false;
-    }
-    bits_below(l.actions, t)
+    nodes <= MOST_NODES
+        && t.len() == nodes
+        && w.len() == first_words(l.actions, l.delay, pending)
+        && bits_below(1, w)
+        && bits_below(l.actions, t)
 }
 
 // Checks 10 and 11. Reading ends here where first words don't matter.
@@ -120,15 +86,11 @@ pub fn read_shape(sheet: &[u8]) -> Result<TableLayout, Refusal>
     if !contents_ok(sheet, b"SWT") {
         return Err(Refusal::TableContents);
     }
-    let h = body(sheet, 0);
-    if h.len() != 4 {
+    if body(sheet, 0).len() != 4 {
         return Err(Refusal::TableShape);
     }
     let l = layout_at(sheet);
-    if !numbers_ok(l) {
-        return Err(Refusal::TableShape);
-    }
-    if !bodies_ok(l, part(sheet, l.flags), part(sheet, l.masks)) {
+    if !numbers_ok(l) || !bodies_ok(l, part(sheet, l.flags), part(sheet, l.masks)) {
         return Err(Refusal::TableShape);
     }
     Ok(l)
@@ -138,12 +100,7 @@ pub fn read_shape(sheet: &[u8]) -> Result<TableLayout, Refusal>
 pub fn some_flagged(w: &[u8]) -> bool
     ensures { result ≡ some_flagged (record { flags = w.now; masks = [] }) }
 {
-    for v in 0..w.len() {
-        if w[v] != 0 {
-            return true;
-        }
-    }
-    false
+    w.iter().any(|&b| b != 0)
 }
 
 // Checks 10 and 11, then 12.

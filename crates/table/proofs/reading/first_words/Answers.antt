@@ -1,6 +1,6 @@
--- `first_words` meets its contract, by the laws of TableLaws.antt. Assumes nothing.
+-- `first_words` meets its contract. Assumes nothing.
 use Rattle.table.proofs.TableLaws.{words}
 use Rattle.table.proofs.reading.first_words.Goals as goal
 
-pub returns : goal.returns
-returns c = search words
+pub returns-else-delay-eq0 : goal.returns-else-delay-eq0
+returns-else-delay-eq0 c = search words
