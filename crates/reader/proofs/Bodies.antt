@@ -194,10 +194,3 @@ unfolding grid_at
 laid_game s l e =
     let x = carries s l e in
     rw (x.positions_part, x.targets_part, x.moves_part, x.start, x.actions, x.holding) (bodies_game_lem s (read_is s l e).0)
-
-pub grid_laid : (s : List ℕ) (l : Layout) {c : List ℕ} {n : ℕ} {g : List (List ℕ)} → c ≡ part_at s l.targets → n ≡ l.actions
-    → g ≡ held_grid l.holding n c → g ≡ grid_at s l
-unfolding grid_at
-grid_laid s l e i f = rw (f, e, i)
-
-pub ruleset laying_out = (rules, grid_laid)

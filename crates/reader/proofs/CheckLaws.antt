@@ -2,7 +2,7 @@
 use Prim.Native.Nat.{ℕ, ◌+◌, ◌*◌, ◌/◌, ◌%◌, ◌≤◌, ◌<◌, ◌^◌}
 use mathlib.Core.Path.{◌≡◌, refl, sym, ◌∙◌, ap}
 use mathlib.Core.Bool.{Bool, true, false, cond}
-use mathlib.Core.List.{List}
+use mathlib.Core.List.{List, []}
 use native.Mathlib.Omega.{arith}
 use native.Mathlib.Nat.{mul-le-mul_left, mul-lt-mul_of_pos_left, le_of_lt, mul-le-mul_right, zero-mul}
 use native.Mathlib.Numerals.{add-one}
@@ -17,7 +17,9 @@ use Rattle.std.specs.Prelude.{Option, Some, None, is_some}
 use Rattle.std.specs.List.{list_all}
 use Rattle.sheet.specs.Kinds.{kind_of, kind_at, is_known, controller_at, known_at}
 use Rattle.sheet.specs.declared.kinds.Kind.{Kind}
-use Rattle.sheet.proofs.ChainLaws.{all_elements}
+use Rattle.sheet.proofs.ChunkLaws.{chunk_entry}
+use Rattle.std.specs.Simd.{first_chunks}
+use Rattle.std.proofs.lemmas.List.{get_or_default}
 use Rattle.reader.specs.Checks.{header_ok, target_ok, targets_ok, move_ok, moves_ok, begins_at, has_line, leaves_at, all_leave, positions_ok, size_ok}
 use Rattle.sheet.specs.Size.{nodes_of}
 use Rattle.reader.specs.code.Steps.{leaves_by}
@@ -33,58 +35,13 @@ some_known (Some kind) = refl
 some_known None = refl
 
 module _ (p : List ℕ) where
-  pub no_positions : length p < 1 → false ≡ positions_ok p
-  unfolding positions_ok
-  no_positions h = sym (both_none _ _ (lt-leb 1 (length p) h))
-
-  pub many_positions : most_positions < length p → false ≡ positions_ok p
-  unfolding positions_ok
-  many_positions h = sym (both_false _ _ (both_none _ _ (lt-leb (length p) most_positions h)))
-
-  known : (q : ℕ) → q < length p → is_some (kind_of (get_or p q 0)) ≡ known_at p q
+  pub known : (q : ℕ) → q < length p → is_some (kind_of (get_or p q 0)) ≡ known_at p q
   unfolding known_at kind_at
   known q h = rw (lt-ltb _ _ h) (some_known (kind_of (get_or p q 0)))
 
-  pub positions_all : (r : Bool) → 1 ≤ length p → length p ≤ most_positions → r ≡ list_all (λ b. is_some (kind_of b)) p → r ≡ positions_ok p
+  pub positions_all : {r : Bool} → 1 ≤ length p → length p ≤ most_positions → r ≡ all_below (known_at p) (length p) → r ≡ positions_ok p
   unfolding positions_ok
-  positions_all r l m e =
-      e
-      ∙ all_elements (λ b. is_some (kind_of b)) 0 (known_at p) p known
-      ∙ sym (both_second _ _ (le-leb _ _ l) ∙ both_second _ _ (le-leb _ _ m))
-
-pub ruleset positions = (rules, no_positions, many_positions, positions_all)
-
--- check 3: the passed tests, then the failed one
-
-module _ (p h : List ℕ) where
-  pub header_length : (length h ≡ 3 → ⊥) → false ≡ header_ok p h
-  unfolding header_ok
-  header_length e = sym (both_none _ _ (ne_eqb _ _ e))
-
-  pub no_action : get_or h 1 0 < 1 → false ≡ header_ok p h
-  unfolding header_ok
-  no_action e = sym (both_false _ _ (both_none _ _ (lt-leb 1 (get_or h 1 0) e)))
-
-  pub many_actions : most_actions < get_or h 1 0 → false ≡ header_ok p h
-  unfolding header_ok
-  many_actions e = sym (both_false _ _ (both_false _ _ (both_none _ _ (lt-leb (get_or h 1 0) most_actions e))))
-
-  pub long_delay : most_delay < get_or h 2 0 → false ≡ header_ok p h
-  unfolding header_ok
-  long_delay e = sym (both_false _ _ (both_false _ _ (both_false _ _ (both_none _ _ (lt-leb (get_or h 2 0) most_delay e)))))
-
-  pub header_start : (w : ℕ) (r : Bool) → length h ≡ 3 → 1 ≤ get_or h 1 0 → get_or h 1 0 ≤ most_actions → get_or h 2 0 ≤ most_delay → w ≡ get_or h 0 0
-      → r ≡ controller_at p w → r ≡ header_ok p h
-  unfolding header_ok
-  header_start w r l a b d e f =
-      (f ∙ ap (controller_at p) e)
-      ∙ sym
-      (both_second _ _ (eq-eqb _ _ l)
-      ∙ both_second _ _ (le-leb _ _ a)
-      ∙ both_second _ _ (le-leb _ _ b)
-      ∙ both_second _ _ (le-leb _ _ d))
-
-pub ruleset header = (rules, header_length, no_action, many_actions, long_delay, header_start)
+  positions_all l m e = e ∙ sym (both_second _ _ (le-leb _ _ l) ∙ both_second _ _ (le-leb _ _ m))
 
 -- check 4
 
@@ -125,16 +82,21 @@ module _ (w : ℕ) (b : List ℕ) where
   unfolding begins_at
   other k v q e n = next k q ∙ either_first _ _ (ne_eqb _ _ (λ x. n (sym (e ∙ x))))
 
-  pub begun_more : (k v : ℕ) {l : List Bool} → l ≡ tabulate (has_line w b k) 0 most_positions → v ≡ get_or b (w * k) 0 → get_or b (w * k) 0 < 256
-      → set l v true ≡ tabulate (has_line w b (k + 1)) 0 most_positions
-  begun_more k v {l} so_far e h =
+  -- x is line k of the lines as arrays, and v its first byte
+  pub begun_more : (l : List (List ℕ)) → l ≡ first_chunks w (length b / w) b → length l ≡ length b / w → 0 < w → (k v : ℕ) (x : List ℕ) {m : List Bool}
+      → m ≡ tabulate (has_line w b k) 0 most_positions → k < length l → x ≡ get_or l k x → v ≡ get_or x 0 0 → v < 256
+      → set m v true ≡ tabulate (has_line w b (k + 1)) 0 most_positions
+  begun_more l whole size some k v x {m} so_far h is e small =
+      let j : w * k ≡ w * k + 0 = omega arith in
+      let entry : get_or (get_or l k []) 0 0 ≡ get_or b (w * k) 0 = rw whole (chunk_entry w (length b / w) b k 0 (w * k) (omega arith) some j) in
+      let same : get_or l k [] ≡ x = get_or_default l k [] x h ∙ sym is in
+      let f : v ≡ get_or b (w * k) 0 = e ∙ ap (λ (y : List ℕ). get_or y 0 0) (sym same) ∙ entry in
       rw so_far
-      (tabulate_set (has_line w b k) (has_line w b (k + 1)) most_positions v true (omega arith) (this k v e) (λ q. other k v q e))
+      (tabulate_set (has_line w b k) (has_line w b (k + 1)) most_positions v true small (this k v f) (λ q. other k v q f))
 
-  pub begun_done : (k n : ℕ) {l : List Bool} → k ≤ n → n ≤ k → l ≡ tabulate (has_line w b k) 0 most_positions → l ≡ tabulate (has_line w b n) 0 most_positions
-  begun_done k n {l} g h e = let done : k ≡ n = omega arith in rw done at e
-
-pub ruleset beginning = (rules, begun_none, begun_more, begun_done)
+  pub begun_done : (k n : ℕ) {m : List Bool} → n ≡ length b / w → k ≤ n → n ≤ k → m ≡ tabulate (has_line w b k) 0 most_positions
+      → m ≡ tabulate (has_line w b (length b / w)) 0 most_positions
+  begun_done k n {m} s g h e = let done : k ≡ length b / w = omega arith in rw done at e
 
 -- the positions that leave, by the passes over both bodies
 
@@ -175,5 +137,3 @@ cut_same n x =
 pub size_is : (p : List ℕ) (a d n : ℕ) → n ≡ length p * power_to a (d / 2) → leb n most_nodes ≡ size_ok p a d
 unfolding size_ok nodes_of power_to
 size_is p a d n e = rw e (cut_same (length p) (a ^ (d / 2)))
-
-pub ruleset sizes = (rules, size_is)

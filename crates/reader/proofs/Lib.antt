@@ -1,6 +1,5 @@
 -- Laws of the definitions of specs/, on which the proofs of the functions rest.
 pub mod CheckLaws
-pub mod GateLaws
 pub mod Accepted
 pub mod ReadLaws
 pub mod Legality

@@ -25,7 +25,8 @@ use Rattle.gates.specs.code.Held.{held_grid}
 use Rattle.sheet.specs.SheetGame.{game_of}
 use Rattle.reader.specs.code.Steps.{Checked}
 use Rattle.sheet.specs.code.Arrays.{absent_mark, unmark, target_at, firsts_of, to_at, tos_between, view_of, bodies_game}
-use Rattle.reader.specs.code.Reaching.{Queue, queue_of, marked, Queued, marks_with, Grown, is_position, by_action_in, by_line, by_move_in}
+use Rattle.reader.specs.code.Reaching.{queue_of, marked, Queued, marks_with, Grown, is_position, by_action_in, by_line, by_move_in}
+use Rattle.reader.specs.declared.reach.Queue.{Queue}
 use Rattle.sheet.proofs.GridLaws.{unmark_absent, unmark_to}
 use Rattle.reader.proofs.Accepted.{ranges}
 use Rattle.reader.proofs.Legality.{legal}
@@ -165,17 +166,16 @@ module _ (m : List Bool) (q : List ℕ) (n t : ℕ) (w : Queued (queue_of m q n)
 
 -- nothing joins where there is no such position, or it has a mark
 
-pub join_none : (m : List Bool) (q : List ℕ) (n t : ℕ) → Queued (queue_of m q n) → most_positions ≤ t → Grown (is_position t) (queue_of m q n) (queue_of m q n)
+pub join_none : (w : Queue) (t : ℕ) → Queued w → most_positions ≤ t → Grown (is_position t) w w
 unfolding is_position
-join_none m q n t w h = grown_same (is_position t) (queue_of m q n) w (λ r l e. absurd (omega (arith, eqb-true r t e)))
+join_none w t q h = grown_same (is_position t) w q (λ r l e. absurd (omega (arith, eqb-true r t e)))
 
-pub join_marked : (m : List Bool) (q : List ℕ) (n t : ℕ) → Queued (queue_of m q n) → get_or m t false ≡ true
-    → Grown (is_position t) (queue_of m q n) (queue_of m q n)
+pub join_marked : (w : Queue) (t : ℕ) → Queued w → get_or w.marks t false ≡ true → Grown (is_position t) w w
 unfolding is_position marked
-join_marked m q n t w h =
-    grown_same (is_position t) (queue_of m q n) w (λ r l e. ap (λ k. get_or m k false) (eqb-true r t e) ∙ h)
+join_marked w t q h =
+    grown_same (is_position t) w q (λ r l e. ap (λ k. get_or w.marks k false) (eqb-true r t e) ∙ h)
 
-pub ruleset joining = (rules, join_none, join_marked, join_new)
+pub ruleset joining = (rules, join_none, join_marked)
 
 -- the targets of a position, action by action
 
@@ -233,7 +233,7 @@ module _ (u : List ℕ) (i : ℕ) where
   pub lines_done : {line e : ℕ} {v w : Queue} → line - i ≤ e - i → e ≤ line → Grown (by_line u i line) v w → Grown (by_line u i e) v w
   lines_done {line} {e} h k b = rw (same_lines line e (omega arith)) at b
 
-pub ruleset lining = (rules, lines_start, lines_more, lines_done)
+pub ruleset lining = (rules, lines_start, lines_more)
 
 -- one move of either side
 
@@ -243,8 +243,6 @@ unfolding by_move_in
 next_joined g m f a q i e x h k y =
     let z = add-one q in
     grown_join _ _ _ _ _ _ x (rw (h, k, z) at y) (λ r l. refl)
-
-pub ruleset moving = (rules, next_joined)
 
 -- the search
 

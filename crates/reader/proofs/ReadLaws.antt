@@ -25,15 +25,6 @@ use Rattle.sheet.specs.declared.refusal.Refusal.{Refusal}
 use Rattle.reader.specs.declared.reading.Layout.{Layout}
 use Rattle.sheet.specs.Limits.{most_positions}
 
-pub layout_is : (s h : List ℕ) (a b d n : ℕ) (x y z w : Place) (o : Bool) → h ≡ body_of 2 s 0 → a ≡ get_or h 0 0 → b ≡ get_or h 1 0 → d ≡ get_or h 2 0
-    → x ≡ placed_at 2 s 0 → y ≡ placed_at 2 s 1 → z ≡ placed_at 2 s 2 → w ≡ placed_at 2 s 3 → n ≡ reached (game_of s)
-    → o ≡ is_holding s
-    → record { start = a; actions = b; delay = d; header = x; positions = y; targets = z; moves = w; reached = n; holding = o } ≡ layout_of s
-unfolding layout_of start_of action_count delay_of
-layout_is s h a b d n x y z w o e f g i j k l m p q = rw (f, g, i, e, j, k, l, m, p, q)
-
-pub ruleset laying = (rules, layout_is)
-
 -- checks 4, 5, 24 and 6: r is each test's result in turn, and each section adds one that passed
 
 pub few_positions : (s p : List ℕ) → p ≡ body_of 2 s 1 → Headed s → length p ≤ most_positions

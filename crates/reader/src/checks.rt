@@ -24,6 +24,7 @@ pub(crate) fn letters_ok(s: &[u8]) -> bool
 }
 
 // Check 2.
+#[tactic(auto, unfolding(crate::specs::Checks::positions_ok, theory::specs::Fold::both))]
 pub(crate) fn positions_ok(p: &[u8]) -> bool
     ensures { result ≡ positions_ok p.now }
 {

@@ -1,5 +1,5 @@
 // The lines of the C and U bodies: checks 4 to 6.
-ghost use Rattle.std.specs.Prelude.{◌≡◌, ◌+◌, ◌*◌, ◌≤◌, ◌<◌, length};
+ghost use Rattle.std.specs.Prelude.{◌≡◌, ◌+◌, ◌*◌, ◌/◌, ◌≤◌, ◌<◌, length};
 ghost use Rattle.theory.specs.Fold.{tabulate};
 ghost use Rattle.sheet.specs.Limits.{most_positions};
 ghost use Rattle.reader.specs.Checks.{key_at, rises_at, target_ok, targets_ok, move_ok, moves_ok, has_line, all_leave};
@@ -65,15 +65,15 @@ pub(crate) fn moves_ok(p: &[u8], u: &[u8]) -> bool
     u.len() % 2 == 0 && u.len() / 2 <= MOST_MOVES && (0..u.len() / 2).all(|k| move_ok(p, u, k))
 }
 
-// For each position that there can be: does one of the first n lines begin with it? One pass over the lines.
-fn begun(width: usize, b: &[u8], n: usize) -> [bool; ROWS]
-    requires { (1 ≤ width) × (width * n ≤ length b.now) }
-    ensures { result ≡ tabulate (has_line width b.now n) 0 most_positions }
+// For each position that there can be: does a line of W bytes begin with it? One pass over the lines.
+fn begun<const W: usize>(b: &[u8]) -> [bool; ROWS]
+    requires { (0 < W) × (W < 256) }
+    ensures { result ≡ tabulate (has_line W b.now (length b.now / W)) 0 most_positions }
 {
+    let (lines, _) = b.as_chunks::<W>();
     let mut begun = [false; ROWS];
-    for k in 0..n {
-        let from = usize::from(b[width * k]);
-        begun[from] = true;
+    for line in lines {
+        begun[usize::from(line[0])] = true;
     }
     begun
 }
@@ -96,7 +96,7 @@ pub(crate) fn all_leave(p: &[u8], c: &[u8], u: &[u8]) -> bool
     requires { length p.now ≤ most_positions }
     ensures { result ≡ all_leave p.now c.now u.now }
 {
-    let targets = begun(3, c, c.len() / 3);
-    let moves = begun(2, u, u.len() / 2);
+    let targets = begun::<3>(c);
+    let moves = begun::<2>(u);
     (0..p.len()).all(|q| leaves_at(p, &targets, &moves, q))
 }

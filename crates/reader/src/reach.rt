@@ -1,95 +1,58 @@
 // How many positions lie on some play from the start: a search from it that looks at each position, and so at each line, once.
 ghost use Rattle.std.specs.Prelude.{◌≡◌, ◌<◌};
 ghost use Rattle.theory.specs.Reach.{reached};
-ghost use Rattle.sheet.specs.Limits.{most_positions};
 ghost use Rattle.sheet.specs.SheetGame.{game_of};
 ghost use Rattle.reader.specs.code.Steps.{Checked};
 ghost use Rattle.sheet.specs.code.Steps.{most_power};
-ghost use Rattle.reader.specs.code.Reaching.{Queued, Grown, queue_of, is_position, by_action_in, by_line, by_move_in};
+ghost use Rattle.reader.specs.code.Reaching.{Queued, Grown, is_position, by_action_in, by_line};
 
 use gates::hold::grid_for;
 use gates::kind::is_holding;
 use sheet::form::{body, byte};
-use sheet::grid::target;
-use sheet::limits::{INDEX, ROW, ROWS};
+use sheet::grid::{Grid, target};
+use sheet::limits::ROWS;
 use sheet::moves::first_lines;
 
-// Queues a position, unless it has a mark; there is none at ROWS or above. Answers how many are queued then.
-fn join(marks: &mut [bool], queue: &mut [u8], found: usize, t: usize) -> usize
-    requires { Queued (queue_of marks.old queue.old found) }
-    ensures { Grown (is_position t) (queue_of marks.old queue.old found)
-        (queue_of marks.new queue.new result) }
-{
-    if ROWS <= t {
-        return found;
-    }
-    if marks[t] {
-        return found;
-    }
-    marks[t] = true;
-    queue[found] = t as u8;
-    found + 1
+// The positions found so far: each has a mark, and stands among the first entries once, in the order found.
+#[derive(Drop)]
+struct Queue {
+    marks: [bool; ROWS],
+    entries: [u8; ROWS],
+    size: usize,
 }
 
-// The targets of q join.
-fn join_targets(
-    grid: &[[u16; ROW]; ROWS],
-    actions: usize,
-    q: usize,
-    marks: &mut [bool],
-    queue: &mut [u8],
-    found: usize,
-) -> usize
-    requires { Queued (queue_of marks.old queue.old found) }
-    ensures { Grown (by_action_in grid.now q actions) (queue_of marks.old queue.old found)
-        (queue_of marks.new queue.new result) }
-{
-    let mut last = found;
-    for x in 0..actions {
-        last = join(marks, queue, last, usize::from(target(grid, q, x)));
+impl Queue {
+    // A position joins, unless it has a mark; there is none at ROWS or above.
+    fn join(&mut self, t: usize)
+        requires { Queued self.old }
+        ensures { Grown (is_position t) self.old self.new }
+    {
+        if t < ROWS && !self.marks[t] {
+            self.marks[t] = true;
+            self.entries[self.size] = t as u8;
+            self.size += 1;
+        }
     }
-    last
-}
 
-// What the lines of the U body from first up to end lead to joins.
-fn join_moves(
-    u: &[u8],
-    first: usize,
-    end: usize,
-    marks: &mut [bool],
-    queue: &mut [u8],
-    found: usize,
-) -> usize
-    requires { (Queued (queue_of marks.old queue.old found)) × (end < most_power) }
-    ensures { Grown (by_line u.now first end) (queue_of marks.old queue.old found)
-        (queue_of marks.new queue.new result) }
-{
-    let mut last = found;
-    for line in first..end {
-        last = join(marks, queue, last, usize::from(byte(u, 2 * line + 1)));
+    // The targets of q join.
+    fn join_targets(&mut self, grid: &Grid, actions: usize, q: usize)
+        requires { Queued self.old }
+        ensures { Grown (by_action_in grid.now q actions) self.old self.new }
+    {
+        for x in 0..actions {
+            self.join(usize::from(target(grid, q, x)));
+        }
     }
-    last
-}
 
-// What one move of either side leads to from q joins.
-fn join_next(
-    grid: &[[u16; ROW]; ROWS],
-    u: &[u8],
-    firsts: &[u16; INDEX],
-    actions: usize,
-    q: usize,
-    marks: &mut [bool],
-    queue: &mut [u8],
-    found: usize,
-) -> usize
-    requires { (Queued (queue_of marks.old queue.old found)) × (q < most_positions) }
-    ensures { Grown (by_move_in grid.now u.now firsts.now actions q)
-        (queue_of marks.old queue.old found) (queue_of marks.new queue.new result) }
-{
-    let last = join_targets(grid, actions, q, marks, queue, found);
-    let first = usize::from(firsts[q]);
-    let end = usize::from(firsts[q + 1]);
-    join_moves(u, first, end, marks, queue, last)
+    // What the lines of the U body from first up to end lead to joins.
+    fn join_moves(&mut self, u: &[u8], first: usize, end: usize)
+        requires { (Queued self.old) × (end < most_power) }
+        ensures { Grown (by_line u.now first end) self.old self.new }
+    {
+        for line in first..end {
+            self.join(usize::from(byte(u, 2 * line + 1)));
+        }
+    }
 }
 
 // The number of positions on plays of a sheet that passes checks 1 to 6 and 24.
@@ -102,14 +65,19 @@ pub(crate) fn reach(s: &[u8]) -> usize
     let actions = usize::from(byte(h, 1));
     let grid = grid_for(body(s, 2), actions, is_holding(s));
     let firsts = first_lines(u);
-    let mut marks = [false; ROWS];
-    let mut queue = [0u8; ROWS];
-    let mut found = join(&mut marks, &mut queue, 0, usize::from(byte(h, 0)));
-    let mut done: usize = 0;
-    while done < found {
-        let q = usize::from(queue[done]);
-        found = join_next(&grid, u, &firsts, actions, q, &mut marks, &mut queue, found);
+    let mut queue = Queue {
+        marks: [false; ROWS],
+        entries: [0; ROWS],
+        size: 0,
+    };
+    queue.join(usize::from(byte(h, 0)));
+    // Not a `for`: the queue grows while its entries are looked at.
+    let mut done = 0;
+    while done < queue.size {
+        let q = usize::from(queue.entries[done]);
+        queue.join_targets(&grid, actions, q);
+        queue.join_moves(u, usize::from(firsts[q]), usize::from(firsts[q + 1]));
         done += 1;
     }
-    found
+    queue.size
 }

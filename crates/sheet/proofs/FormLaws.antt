@@ -19,24 +19,11 @@ use Rattle.sheet.specs.declared.form.Place.{Place}
 
 -- bytes and two-byte numbers
 
-pub past_end : (s : List ℕ) (i : ℕ) → length s ≤ i → 0 ≡ get_or s i 0
-past_end s i h = sym (get_or-eq_default s 0 h)
-
 pub word_none : (s : List ℕ) (at : ℕ) → length s ≤ at → 0 ≡ number_at 2 s at
 unfolding number_at
 word_none s at h =
     let later : length s ≤ suc at = omega arith in
     simp (get_or-eq_default s 0 h, get_or-eq_default s 0 later)
-
-pub word_is : (s : List ℕ) (at low high w v : ℕ) → low ≡ get_or s at 0 → w ≡ low → high ≡ get_or s (at + 1) 0 → v ≡ high
-    → w + 256 * v ≡ number_at 2 s at
-unfolding number_at
-word_is s at low high w v p e q f = omega (arith, rw (add-one at) at q)
-
-pub word_small : {low high w v : ℕ} → w ≡ low → low < 256 → v ≡ high → high < 256 → w + 256 * v < 65536
-word_small p q e f = omega arith
-
-pub ruleset bytes = (rules, past_end, word_none, word_is, word_small)
 
 -- where the bodies begin, n of them
 
@@ -125,25 +112,3 @@ module _ (s : List ℕ) (k : ℕ) where
   unfolding placed_at offset_of length_of entry_size
   placed_is at size p q = rw (p, q, take_rest s (5 * k), number_drop 1, number_drop 3)
 
-  pub body_is : (x : Place) (r : List ℕ) → x ≡ placed_at 2 s k → r ≡ part_at s x → r ≡ body_of 2 s k
-  unfolding body_of
-  body_is x r e f = f ∙ ap (part_at s) e
-
-module _ (s : List ℕ) (x : Place) where
-  pub part_outside : length s < x.at → [] ≡ part_at s x
-  unfolding part_at
-  part_outside h =
-      let out : length s ≤ x.at = omega arith in
-      rw (drop_of_length-le s out, take-nil x.size)
-
-  pub part_cut : length s - x.at < x.size → take (length s - x.at) (drop x.at s) ≡ part_at s x
-  unfolding part_at
-  part_cut h =
-      let all : length (drop x.at s) ≤ x.size = rw (length-drop x.at s) (omega arith) in
-      take_rest s x.at ∙ sym (take_all x.size (drop x.at s) all)
-
-  pub part_whole : take ((x.at + x.size) - x.at) (drop x.at s) ≡ part_at s x
-  unfolding part_at
-  part_whole = let same : (x.at + x.size) - x.at ≡ x.size = omega arith in rw same
-
-pub ruleset parts = (rules, unplaced, placed_is, body_is, part_outside, part_cut, part_whole)

@@ -171,5 +171,3 @@ pub target_in_lem : (g : List (List ℕ)) (q x r : ℕ) → q < most_positions �
     → unmark r ≡ target_at g q x
 unfolding target_at
 target_in_lem g q x r h k e = rw (both_true _ _ (lt-ltb q most_positions h) (lt-ltb x most_actions k), e)
-
-pub ruleset looking = (rules, target_past, target_no_action, target_in_lem)

@@ -50,20 +50,7 @@ module _ (b : ℕ) where
 
 pub ruleset powers = (rules, power_first, power_again, power_over, power_is)
 
--- so many positions as two bytes can say
-pub nodes_most : {p w : ℕ} → p < most_power → w ≤ most_power → p * w ≤ most_power * most_power
-nodes_most h i = mul-le-mul {n₂ = most_power} (le_of_lt h) i
-
 -- nodes and first words, v the delay as a number and w a power
-
-module _ (a d v w : ℕ) (ev : v ≡ d) where
-  pub nodes_is : (p : ℕ) → w ≡ power_to a (v / 2) → p * w ≡ p * power_to a (d / 2)
-  nodes_is p e = rw (e, ev)
-
-  pub words_is : w ≡ power_to a ((v + 1) / 2) → w ≡ power_to a (initial_length d)
-  words_is e = rw (e, ev)
-
-pub ruleset sizes = (rules, nodes_is, nodes_most, words_is)
 
 -- three actions make a word at most
 pub power_bound : (a n : ℕ) → a ≤ most_actions → n ≤ 3 → a ^ n ≤ most_words

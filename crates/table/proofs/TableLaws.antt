@@ -41,34 +41,7 @@ use Rattle.sheet.proofs.SizeLaws.{power_bound, small_power}
 
 -- the layout
 
-pub layout_is : (s h : List ℕ) (a b d e : ℕ) (x y : Place) → h ≡ body_of width s 0 → a ≡ get_or h 0 0 → b ≡ get_or h 1 0 → d ≡ get_or h 2 0
-    → e ≡ get_or h 3 0 → x ≡ placed_at width s 1 → y ≡ placed_at width s 2
-    → record { start = a; actions = b; delay = d; highest = e; flags = x; masks = y } ≡ table_layout s
-unfolding table_layout
-layout_is s h a b d e x y p q r t u v w = rw (q, r, t, u, p, v, w)
-
-pub ruleset layouts = (rules, layout_is)
-
 -- 11, the S body
-
-module _ (l : TableLayout) where
-  pub no_action : l.actions < 1 → false ≡ ranges_ok (says l [] [])
-  unfolding ranges_ok
-  no_action e = sym (both_none _ _ (lt-leb 1 l.actions e))
-
-  pub many_actions : most_actions < l.actions → false ≡ ranges_ok (says l [] [])
-  unfolding ranges_ok
-  many_actions e = sym (both_false _ _ (both_none _ _ (lt-leb l.actions most_actions e)))
-
-  pub long_delay : most_delay < l.delay → false ≡ ranges_ok (says l [] [])
-  unfolding ranges_ok
-  long_delay e = sym (both_false _ _ (both_false _ _ (both_none _ _ (lt-leb l.delay most_delay e))))
-
-  pub numbers_end : 1 ≤ l.actions → l.actions ≤ most_actions → l.delay ≤ most_delay → leb l.start l.highest ≡ ranges_ok (says l [] [])
-  unfolding ranges_ok
-  numbers_end a b d = sym (both_second _ _ (le-leb _ _ a) ∙ both_second _ _ (le-leb _ _ b) ∙ both_second _ _ (le-leb _ _ d))
-
-pub ruleset numbers = (rules, no_action, many_actions, long_delay, numbers_end)
 
 -- the number of first words
 

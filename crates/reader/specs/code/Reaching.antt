@@ -5,13 +5,9 @@ use Rattle.theory.specs.Fold.{either, any_below, any_of, tabulate, count}
 use Rattle.theory.specs.Reach.{is_target}
 use Rattle.sheet.specs.Limits.{most_positions}
 use Rattle.sheet.specs.code.Arrays.{target_at, tos_between}
+use Rattle.reader.specs.declared.reach.Queue.{Queue}
 
--- what the code lends: the marks, the queue's entries, and how many of them count
-pub record Queue : Type 0 where
-  pub marks : List Bool
-  pub entries : List ℕ
-  pub size : ℕ
-
+-- a queue by its marks, its entries, and how many of them count
 abbrev pub queue_of : List Bool → List ℕ → ℕ → Queue
 queue_of marks entries size = record { marks = marks; entries = entries; size = size }
 
