@@ -4,27 +4,25 @@ use mathlib.Core.Path.{◌≡◌, refl, sym, ◌∙◌, ap}
 use mathlib.Core.Bool.{Bool, true, false, cond}
 use mathlib.Core.List.{List, []}
 use native.Mathlib.Omega.{arith}
-use native.Mathlib.Nat.{mul-le-mul_left, mul-lt-mul_of_pos_left, le_of_lt, mul-le-mul_right, zero-mul}
+use native.Mathlib.Nat.{mul-le-mul_left, le_of_lt, mul-le-mul_right, zero-mul}
 use native.Mathlib.Numerals.{add-one}
 use lib.Dec.{leb}
 use lib.ListN.{length, get_or, set, replicate}
-use borrow.Author.Rules.{rules}
 use borrow.Author.Tests.{le-leb, lt-leb, lt-ltb, eq-eqb, ne_eqb, leb-false}
 use Rattle.theory.specs.Fold.{either, all_below, any_below, tabulate}
-use Rattle.theory.proofs.Fold.{all_same, both_false, either_right, either_first, any_suc, both_none, both_second}
+use Rattle.theory.proofs.Fold.{all_same, either_right, either_first, any_suc, both_second}
 use Rattle.theory.proofs.Fold.{get_d_tabulate, tabulate_set, bool, below?}
 use Rattle.std.specs.Prelude.{Option, Some, None, is_some}
-use Rattle.std.specs.List.{list_all}
-use Rattle.sheet.specs.Kinds.{kind_of, kind_at, is_known, controller_at, known_at}
+use Rattle.sheet.specs.Kinds.{kind_of, kind_at, is_known, known_at}
 use Rattle.sheet.specs.declared.kinds.Kind.{Kind}
 use Rattle.sheet.proofs.ChunkLaws.{chunk_entry}
 use Rattle.std.specs.Simd.{first_chunks}
 use Rattle.std.proofs.lemmas.List.{get_or_default}
-use Rattle.reader.specs.Checks.{header_ok, target_ok, targets_ok, move_ok, moves_ok, begins_at, has_line, leaves_at, all_leave, positions_ok, size_ok}
+use Rattle.reader.specs.Checks.{target_ok, targets_ok, move_ok, moves_ok, begins_at, has_line, leaves_at, all_leave, positions_ok, size_ok}
 use Rattle.sheet.specs.Size.{nodes_of}
 use Rattle.reader.specs.code.Steps.{leaves_by}
 use Rattle.sheet.specs.code.Steps.{power_to, most_power}
-use Rattle.sheet.specs.Limits.{most_positions, most_actions, most_delay, most_moves, most_nodes}
+use Rattle.sheet.specs.Limits.{most_positions, most_moves, most_nodes}
 use mathlib.Core.Logic.{⊎_elim}
 
 -- check 2
@@ -59,10 +57,6 @@ module _ (p u : List ℕ) where
 
 -- check 6
 
--- a line of w bytes within the first n lies within them whole
-pub line_within : (w k n : ℕ) → 1 ≤ w → k < n → w * k < w * n
-line_within w k n h l = mul-lt-mul_of_pos_left l h
-
 -- one pass over the lines of w bytes: l says which positions the first k lines begin with
 
 module _ (w : ℕ) (b : List ℕ) where
@@ -93,10 +87,6 @@ module _ (w : ℕ) (b : List ℕ) where
       let f : v ≡ get_or b (w * k) 0 = e ∙ ap (λ (y : List ℕ). get_or y 0 0) (sym same) ∙ entry in
       rw so_far
       (tabulate_set (has_line w b k) (has_line w b (k + 1)) most_positions v true small (this k v f) (λ q. other k v q f))
-
-  pub begun_done : (k n : ℕ) {m : List Bool} → n ≡ length b / w → k ≤ n → n ≤ k → m ≡ tabulate (has_line w b k) 0 most_positions
-      → m ≡ tabulate (has_line w b (length b / w)) 0 most_positions
-  begun_done k n {m} s g h e = let done : k ≡ length b / w = omega arith in rw done at e
 
 -- the positions that leave, by the passes over both bodies
 

@@ -63,6 +63,7 @@ fn layout_at(s: &[u8]) -> Layout
 }
 
 // Checks 4, 5, 24 and 6, and acceptance.
+#[tactic(auto, using(crate::proofs::ReadLaws::few_positions), unfolding(theory::specs::Answer::check, sheet::specs::Bodies::action_count))]
 fn check_lines(s: &[u8]) -> Result<Layout, Refusal>
     requires { Headed s.now }
     ensures { answer_of result ≡ lines_answer s.now }
@@ -86,6 +87,7 @@ fn check_lines(s: &[u8]) -> Result<Layout, Refusal>
 }
 
 // Reading a game sheet of any size: all checks but 7 in the order written.
+#[tactic(auto, unfolding(crate::specs::Reading::checked_answer, theory::specs::Answer::check))]
 pub fn read_any(sheet: &[u8]) -> Result<Layout, Refusal>
     ensures { answer_of result ≡ checked_answer sheet.now }
 {
@@ -103,6 +105,7 @@ pub fn read_any(sheet: &[u8]) -> Result<Layout, Refusal>
 }
 
 // Reading a game sheet: those checks, and 7.
+#[tactic(auto, unfolding(crate::specs::Reading::read_answer, theory::specs::Answer::on_accepted))]
 pub fn read(sheet: &[u8]) -> Result<Layout, Refusal>
     ensures { answer_of result ≡ read_answer sheet.now }
 {

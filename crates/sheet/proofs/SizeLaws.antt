@@ -1,4 +1,4 @@
--- Powers that are cut off, nodes and first words, as the code of src/size.rt finds them. Assumes nothing.
+-- Powers that are cut off, as the code of src/size.rt finds them, and the sizes that they give. Assumes nothing.
 use Prim.Native.Nat.{ℕ, suc, ◌+◌, ◌*◌, ◌/◌, ◌^◌, ◌≤◌, ◌<◌}
 use mathlib.Core.Path.{◌≡◌, sym, ◌∙◌, ap}
 use mathlib.Core.Logic.{⊎_elim}
@@ -49,8 +49,6 @@ module _ (b : ℕ) where
       rw (le-leb (b ^ e) most_power (rw same at h)) same
 
 pub ruleset powers = (rules, power_first, power_again, power_over, power_is)
-
--- nodes and first words, v the delay as a number and w a power
 
 -- three actions make a word at most
 pub power_bound : (a n : ℕ) → a ≤ most_actions → n ≤ 3 → a ^ n ≤ most_words

@@ -6,10 +6,9 @@ use mathlib.Core.Bool.{Bool, true, false, not}
 use mathlib.Core.Logic.{⊎_elim}
 use mathlib.Core.List.{List, [], ◌∷◌}
 use native.Mathlib.Omega.{arith}
-use native.Mathlib.Nat.{div-eq_of_lt, div-lt_iff_lt-mul, mul-le-mul, mul-one, one-mul, pow-zero, pow-suc}
-use native.Mathlib.Numerals.{add-one}
+use native.Mathlib.Nat.{div-eq_of_lt, div-lt_iff_lt-mul, mul-le-mul, one-mul, pow-zero, pow-suc}
 use lib.Bits.{bit_or, or_lt, or_add_and, and_le_l, and_le_r}
-use lib.Dec.{eqb, leb, ltb}
+use lib.Dec.{eqb, ltb}
 use lib.Pow.{pow_pos, pow_mono, pow-add}
 use lib.ListN.{length, get_or}
 use mir.Syntax.{w64}
@@ -18,44 +17,31 @@ use borrow.Author.Rules.{rules}
 use borrow.Author.Tests.{leb-true, le-leb, lt-leb, lt-ltb, le-ltb, eq-eqb, ne_eqb}
 use Rattle.std.specs.List.{fold, list_all}
 use Rattle.sheet.proofs.ChainLaws.{all_elements}
-use Rattle.theory.specs.Fold.{both, all_below, any_below}
+use Rattle.theory.specs.Fold.{both}
 use Rattle.theory.specs.Answer.{Answer, refused, accepted, check, on_accepted}
 use Rattle.theory.specs.Strategy.{initial_length}
 use Rattle.theory.specs.Table.{Table, flagged}
 use Rattle.theory.proofs.Answer.{check_passed, check_failed, check_both}
-use Rattle.theory.proofs.Fold.{bool, below?, both_first, both_true, both_false, both_left, both_right, all_none, all_suc, all_below_lem, any_none, any_holds, any_again, any_done, both_none, both_second, failed, passed}
+use Rattle.theory.proofs.Fold.{bool, below?, both_first, both_true, both_false, both_left, both_right, all_below_lem, both_none, both_second, failed, passed}
 use Rattle.sheet.specs.Limits.{width, most_actions, most_delay, most_nodes}
-use Rattle.sheet.specs.Form.{contents_ok, placed_at, part_at, body_of}
+use Rattle.sheet.specs.Form.{contents_ok, part_at, body_of}
 use Rattle.sheet.specs.Size.{nodes_of}
 use Rattle.sheet.specs.code.Steps.{power_to, most_power}
-use Rattle.std.specs.Prelude.{Result, Ok, Err}
-use Rattle.sheet.specs.Refusals.{number_of, answer_by}
-use Rattle.sheet.proofs.RefusalLaws.{by_refused}
-use Rattle.sheet.specs.declared.form.Place.{Place}
+use Rattle.std.specs.Prelude.{Result, Ok}
+use Rattle.sheet.specs.Refusals.{answer_by}
 use Rattle.sheet.specs.declared.refusal.Refusal.{Refusal}
 use Rattle.table.specs.TableSheet.{TableSheet, table_letters, table_layout, says, table_at, decode, table_nodes, numbers_ok, below_at, bytes_below, bodies_ok, shape_answer, some_flagged, table_answer}
-use Rattle.table.specs.TableSheet.{masks_in, masks_of}
 use Rattle.table.specs.code.Steps.{ranges_ok, filled_ok}
 use Rattle.table.specs.declared.reading.TableLayout.{TableLayout}
 use Rattle.sheet.proofs.SizeLaws.{power_bound, small_power}
 
--- the layout
-
--- 11, the S body
-
 -- the number of first words
 
 module _ (A d n : ℕ) where
-  pub words_even : d % 2 ≡ 0 → n ≡ n * A ^ (d % 2)
-  words_even e = sym (rw (e, pow-zero A) (mul-one n))
-
   pub words_odd : (v : ℕ) → (d % 2 ≡ 0 → ⊥) → v ≡ A → n * v ≡ n * A ^ (d % 2)
   words_odd v e q = let z : d % 2 ≡ 1 = omega arith in rw (z, q, pow-suc A 0, pow-zero A, one-mul A)
 
-pub words_fit : (n v A : ℕ) → n ≤ most_power → v ≡ A → A < 256 → Fits w64 (n * v)
-words_fit n v A h e l = let m : n * v ≤ most_power * 256 = mul-le-mul {m₂ = 256} h (omega arith) in record { fits = omega arith }
-
-pub ruleset words = (rules, words_even, words_odd, words_fit)
+pub ruleset words = (rules, words_odd)
 
 -- no byte with a bit at n or above, which is one below 2 ^ n; a is what the bytes before k have together
 
@@ -269,10 +255,6 @@ unfolding some_flagged flagged
 some_any w a b = refl
 
 module _ (s : List ℕ) (y : Result TableLayout Refusal) (ey : answer_by (table_at s) y ≡ shape_answer s) where
-  pub shape_refused : (x : Refusal) → y ≡ Err x → refused (number_of x) ≡ table_answer s
-  unfolding table_answer on_accepted
-  shape_refused x e = rw (by_refused (table_at s) y _ ey x e)
-
   module _ (l : TableLayout) (el : y ≡ Ok l) (w : List ℕ) (ew : w ≡ part_at s l.flags) (r : Bool)
       (er : r ≡ some_flagged (record { flags = w; masks = [] })) where
     shape : shape_answer s ≡ accepted (table_at s l)
@@ -289,17 +271,4 @@ module _ (s : List ℕ) (y : Result TableLayout Refusal) (ey : answer_by (table_
     unfolding table_answer on_accepted check
     table_read x = rw (shape, passed some x)
 
-pub ruleset reads = (rules, shape_refused, refuses_12, table_read)
-
--- the part that holds the masks
-
-module _ (s : List ℕ) (y : Result TableLayout Refusal) (ey : answer_by (table_at s) y ≡ table_answer s) where
-  pub masks_none : (x : Refusal) → y ≡ Err x → [] ≡ masks_of s
-  unfolding masks_of masks_in
-  masks_none x e = rw (sym ey ∙ ap (answer_by (table_at s)) e)
-
-  pub masks_some : (l : TableLayout) (t : List ℕ) → y ≡ Ok l → t ≡ body_of width s 2 → t ≡ masks_of s
-  unfolding masks_of masks_in
-  masks_some l t e f = rw (sym ey ∙ ap (answer_by (table_at s)) e) f
-
-pub ruleset masks_laws = (rules, masks_none, masks_some)
+pub ruleset reads = (rules, refuses_12, table_read)

@@ -54,7 +54,11 @@ fn first_words(actions: u8, delay: u8, pending: usize) -> usize
     requires { pending ≤ most_power }
     ensures { result ≡ pending * actions ^ (delay % 2) }
 {
-    if delay % 2 == 0 { pending } else { pending * usize::from(actions) }
+    if delay % 2 == 0 {
+        pending
+    } else {
+        pending * usize::from(actions)
+    }
 }
 
 // Has no byte a bit at n or above? Every call of the controller reads its whole sheet: the fold has no exit, so that it compiles to
@@ -104,6 +108,7 @@ pub fn some_flagged(w: &[u8]) -> bool
 }
 
 // Checks 10 and 11, then 12.
+#[tactic(auto, unfolding(crate::specs::TableSheet::table_answer, theory::specs::Answer::on_accepted))]
 pub fn read(sheet: &[u8]) -> Result<TableLayout, Refusal>
     ensures { answer_by (table_at sheet.now) result ≡ table_answer sheet.now }
 {
@@ -115,6 +120,7 @@ pub fn read(sheet: &[u8]) -> Result<TableLayout, Refusal>
 }
 
 // The T body as that part of the caller's sheet: body 2 where the sheet is accepted, and an empty part where it is refused.
+#[tactic(auto, unfolding(crate::specs::TableSheet::masks_of, crate::specs::TableSheet::masks_in))]
 pub fn masks(sheet: &[u8]) -> &[u8]
     ensures { result.now ≡ masks_of sheet.now }
 {

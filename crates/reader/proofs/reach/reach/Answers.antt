@@ -21,8 +21,8 @@ loop-done-smaller c = omega (arith, queue_few _ _ _ _ c.loop-done.invariant.queu
 pub loop-done-preserved : goal.loop-done-preserved
 loop-done-preserved c =
     reach_next _ c.requires _ _ c.body.ensures c.body-u.ensures c.is_holding.ensures c.grid_for-grid.ensures c.first_lines-firsts.ensures c.body-h.ensures
-        c.byte.ensures c.from-actions.ensures c.loop-done.invariant c.loop-done-test.true c.from-q.ensures
-        (next_joined _ _ _ _ _ _ _ c.join_targets.ensures c.from-in-loop-done.ensures c.from-in-loop-done-2.ensures c.join_moves.ensures)
+    c.byte.ensures c.from-actions.ensures c.loop-done.invariant c.loop-done-test.true c.from-q.ensures
+    (next_joined _ _ _ _ _ _ _ c.join_targets.ensures c.from-in-loop-done.ensures c.from-in-loop-done-2.ensures c.join_moves.ensures)
 
 pub returns : goal.returns
 returns c = reach_done _ c.requires _ c.loop-done.invariant c.loop-done-test.false

@@ -2,9 +2,6 @@
 use Rattle.reader.proofs.ReadLaws.{reads}
 use Rattle.reader.proofs.reading.read.Goals as goal
 
-pub returns-in_err-l : goal.returns-in_err-l
-returns-in_err-l c = search reads
-
 pub size_ok-requires : goal.size_ok-requires
 size_ok-requires c = search reads
 

@@ -2,9 +2,6 @@
 use Rattle.table.proofs.TableLaws.{reads}
 use Rattle.table.proofs.reading.read.Goals as goal
 
-pub returns-in_err-l : goal.returns-in_err-l
-returns-in_err-l c = search reads
-
 pub returns-then-not-some_flagged : goal.returns-then-not-some_flagged
 returns-then-not-some_flagged c = search reads
 
