@@ -1,29 +1,26 @@
 -- The code of src/closing.rt: which positions a notice lists, whether they exist, and the P body in which they are unsafe; and that this
 -- body's game is the closed one. Assumes nothing.
-use Prim.Native.Nat.{ℕ, suc, ◌+◌, ◌≤◌, ◌<◌}
+use Prim.Native.Nat.{ℕ, ◌+◌, ◌≤◌, ◌<◌}
 use mathlib.Core.Path.{◌≡◌, refl, sym, ◌∙◌, ap, fun_ext}
 use mathlib.Core.Bool.{Bool, true, false, not, cond}
 use mathlib.Core.List.{List, [], ◌∷◌}
 use mathlib.Core.Logic.{⊎_elim}
 use native.Mathlib.Omega.{arith}
-use native.Mathlib.Numerals.{add-one}
-use lib.Dec.{eqb, ltb}
+use lib.Dec.{eqb}
 use Rattle.std.specs.List.{list_any}
-use lib.ListN.{length, get_or, set, drop, drop_of_length-le}
-use lib.Seq.{drop-cons}
+use lib.ListN.{length, get_or, set}
 use borrow.Author.Rules.{rules}
 use borrow.Author.Tests.{eq-eqb, ne_eqb, lt-ltb, le-ltb}
-use Rattle.theory.specs.Fold.{both, either, all_below}
+use Rattle.theory.specs.Fold.{both}
 use Rattle.theory.specs.Buffer.{over}
 use Rattle.theory.specs.Closing.{listed, open_in, close}
-use Rattle.theory.proofs.Fold.{bool, below?, same?, both_none, both_false, both_second, either_left, either_second, all_none, all_again, all_fails, all_done}
+use Rattle.theory.proofs.Fold.{bool, below?, same?, both_none, both_false, both_second, either_left, either_second}
 use Rattle.theory.proofs.Fold.{length_tabulate, get_d_tabulate}
 use Rattle.theory.proofs.Notices.{listed_nil, listed_cons}
 use Rattle.theory.proofs.Filling.{filled, filled_none, filled_more, filled_over}
-use Rattle.std.specs.Prelude.{Option, None, Some}
+use Rattle.std.specs.Prelude.{None}
 use Rattle.sheet.specs.Kinds.{position, kind_of, kind_at, is_controller, is_safe, controller_at, safe_at}
 use Rattle.sheet.specs.code.Arrays.{view_of}
-use Rattle.table.specs.TableSheet.{below_at, bytes_below}
 use Rattle.notice.specs.code.Closed.{closed_byte, closed_at, closed_body}
 
 -- a position is looked for, and check 23

@@ -5,7 +5,7 @@ use mathlib.Core.Bool.{true}
 use mathlib.Core.List.{List, [], ◌++◌}
 use native.Mathlib.Omega.{arith}
 use lib.Dec.{eqb}
-use lib.ListN.{length, get_or, take, drop, replicate, length-replicate, length-append, length-take}
+use lib.ListN.{length, get_or, take, replicate, length-replicate, length-take}
 use lib.Seq.{take-append_seam}
 use borrow.Author.Rules.{rules}
 use borrow.Author.Tests.{le-leb, lt-ltb}
@@ -38,7 +38,7 @@ use Rattle.walk.proofs.LevelLaws.{arena_is}
 use Rattle.walk.proofs.NodeLaws.{fitted}
 use Rattle.region.proofs.ReadLaws.{room_read, game_read, is_level, sized_read}
 use Rattle.judge.specs.code.Judgeable.{table_with}
-use Rattle.prune.specs.code.Pruning.{fallen_in, Standing, is_prunable, PrunedBy, PrunedLeft, Pruned}
+use Rattle.prune.specs.code.Pruning.{fallen_in, Standing, is_prunable, PrunedBy, Pruned}
 use Rattle.prune.proofs.CutLaws.{pruned_standing, pruned_sized}
 use Rattle.notice.specs.code.Closed.{closed_body}
 use Rattle.notice.specs.code.Left.{PrunedIn, left_of}

@@ -9,7 +9,7 @@ use lib.Dec.{eqb}
 use mir.Val.{Fits as Word}
 use mir.Syntax.{w64}
 use lib.ListN.{length, get_or, take, replicate, length-replicate}
-use lib.Seq.{ext_get_or, length-take-le}
+use lib.Seq.{ext_get_or}
 use borrow.Author.Rules.{rules}
 use borrow.Author.Tests.{le-leb, lt-leb}
 use Rattle.theory.specs.Fold.{both, tabulate}
@@ -21,7 +21,7 @@ use Rattle.theory.specs.Table.{Table, flagged, has, allows, TableFits}
 use Rattle.theory.specs.Closing.{listed, open_in, close, within, post, SizedMasks}
 use Rattle.theory.proofs.Buffer.{over_first}
 use Rattle.theory.proofs.Answer.{check_passed, check_failed}
-use Rattle.theory.proofs.Fold.{failed, passed, same?, same_test, both_true, both_left, both_right, length_tabulate, get_d_tabulate}
+use Rattle.theory.proofs.Fold.{same?, same_test, both_true, both_left, both_right, length_tabulate, get_d_tabulate}
 use Rattle.theory.proofs.Tables.{good_more}
 use Rattle.theory.proofs.Part.{fits_sized, flagged_part, part_region}
 use Rattle.theory.proofs.Within.{masks_only}

@@ -42,6 +42,7 @@ impl Notice<'_> {
     }
 
     // A P body with the positions closed, at the front of a lent buffer.
+    #[tactic(auto, using(crate::proofs::CloseLaws::closing_all))]
     pub(crate) fn fill_closed(&self, p: &[u8], to: &mut [u8])
         requires { length p.now ≤ length to.old }
         ensures { to.new ≡ closed_after p.now self.now.positions.now to.old }

@@ -15,6 +15,7 @@ fn kept_flag(shut: bool, flag: u8, good: u8) -> u8
 }
 
 // The buffer holds the flags of the good words, and then of those that remain.
+#[tactic(auto, using(crate::proofs::WordLaws::keeping))]
 fn keep_flags(shut: bool, flags: &[u8], good: &mut [u8])
     requires { length flags.now ≤ length good.old }
     ensures { good.new ≡ kept_after shut flags.now good.old }

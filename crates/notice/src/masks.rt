@@ -40,6 +40,7 @@ impl Notice<'_> {
     }
 
     // The same with the notice's positions closed.
+    #[tactic(auto, using(crate::proofs::LeftLaws::closing_arrays))]
     fn prune_closed(&self, masks: &mut [u8])
         requires { read_answer self.now.sheet.now ≡ accepted self.now.layout }
         ensures { PrunedIn self.now.sheet.now self.now.layout
@@ -52,6 +53,7 @@ impl Notice<'_> {
     }
 
     // What the notice leaves of the masks of a table that fits the sheet, at the front of a lent buffer.
+    #[tactic(auto, using(crate::proofs::LeftLaws::leaving_masks))]
     pub(crate) fn left_masks(&self, masks: &[u8], left: &mut [u8])
         requires { (read_answer self.now.sheet.now ≡ accepted self.now.layout)
             × (SizedMasks (arena (game_of self.now.sheet.now) (delay_of self.now.sheet.now)) masks.now)

@@ -58,6 +58,7 @@ impl Notice<'_> {
 }
 
 // Posting, for any two sheets, any notice and any output.
+#[tactic(auto, using(crate::proofs::PostLaws::posted))]
 pub fn post(sheet: &[u8], table: &[u8], notice: &[u8], out: &mut [u8]) -> Result<Posting, Refusal>
     ensures answer { answer_by written_by result
         ≡ posted_answer sheet.now table.now notice.now out.old }

@@ -35,6 +35,7 @@ impl Pruning<'_, '_> {
     }
 
     // Node k keeps the part of its mask that may stand by the marks. Says whether it had more.
+    #[tactic(auto, using(crate::proofs::PruneCode::cutting))]
     pub(crate) fn cut(&mut self, k: usize) -> bool
         requires { (Ready self.old) × (k < self.old.arena.now.level.nodes) }
         ensures { CutOnce self.old k self.new result }

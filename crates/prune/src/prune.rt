@@ -16,6 +16,7 @@ const QUEUE: usize = 4096;
 impl Pruning<'_, '_> {
     // Every node keeps the part of its mask that may stand, by what has fallen when it is met. Says whether a mask had more; the nodes
     // that fell stand in the queue.
+    #[tactic(auto, using(crate::proofs::PruneCode::sweeping))]
     fn sweep(&mut self) -> bool
         requires { Ready self.old }
         ensures { Swept self.old self.old.arena.now.level.nodes self.new result }
@@ -54,6 +55,7 @@ impl Pruning<'_, '_> {
 
 // The largest part of the masks that the judging rule allows. Nothing is done where the level is too large or has no action, or there is
 // not one mask for each node.
+#[tactic(auto, using(crate::proofs::PruneCode::pruning))]
 pub fn prune(arena: &Arena, masks: &mut [u8])
     ensures { PrunedOver arena.now masks.old masks.new }
 {

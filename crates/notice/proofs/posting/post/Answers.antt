@@ -3,9 +3,6 @@ use native.Mathlib.Omega.{arith}
 use Rattle.notice.proofs.PostLaws.{both_agree, postable, taken_answer, taken_output, unread_output, shapeless_answer, shapeless_output, posted}
 use Rattle.notice.proofs.posting.post.Goals as goal
 
-pub returns-in_err-layout-clause-answer : goal.returns-in_err-layout-clause-answer
-returns-in_err-layout-clause-answer c = search posted
-
 pub returns-in_err-layout-clause-output : goal.returns-in_err-layout-clause-output
 returns-in_err-layout-clause-output c =
     unread_output _ _ _ _ _ c.read.ensures _ c.in_err-layout.was
@@ -18,27 +15,6 @@ returns-in_err-x-clause-answer c =
 pub returns-in_err-x-clause-output : goal.returns-in_err-x-clause-output
 returns-in_err-x-clause-output c =
     shapeless_output _ _ _ c.read.ensures _ c.in_ok-layout.was _ c.read_shape.ensures _ _ _ c.in_err-x.was
-
-pub returns-then-not-layouts_agree-clause-answer : goal.returns-then-not-layouts_agree-clause-answer
-returns-then-not-layouts_agree-clause-answer c = search posted
-
-pub returns-then-not-layouts_agree-clause-output : goal.returns-then-not-layouts_agree-clause-output
-returns-then-not-layouts_agree-clause-output c = search posted
-
-pub returns-then-not-all_exist-clause-answer : goal.returns-then-not-all_exist-clause-answer
-returns-then-not-all_exist-clause-answer c = search posted
-
-pub returns-then-not-all_exist-clause-output : goal.returns-then-not-all_exist-clause-output
-returns-then-not-all_exist-clause-output c = search posted
-
-pub overflow_add-flags-2 : goal.overflow_add-flags-2
-overflow_add-flags-2 c = search posted
-
-pub returns-then-out-flags-clause-answer : goal.returns-then-out-flags-clause-answer
-returns-then-out-flags-clause-answer c = search posted
-
-pub returns-then-out-flags-clause-output : goal.returns-then-out-flags-clause-output
-returns-then-out-flags-clause-output c = search posted
 
 pub post_bodies-requires : goal.post_bodies-requires
 post_bodies-requires c =
@@ -54,3 +30,12 @@ pub returns-clause-output : goal.returns-clause-output
 returns-clause-output c =
     let both = both_agree _ _ _ c.read.ensures _ c.in_ok-layout.was _ c.read_shape.ensures _ c.in_ok-x.was c.layouts_agree.ensures c.if-not-layouts_agree.false in
     taken_output _ _ _ _ _ _ both c.all_exist.ensures c.if-not-all_exist.false _ _ c.part-flags.ensures c.part-masks.ensures c.if-out-flags.false c.post_bodies.ensures.1
+
+pub overflow_add-flags-2 : goal.overflow_add-flags-2
+overflow_add-flags-2 c = search posted
+
+pub returns-then-out-flags-clause-answer : goal.returns-then-out-flags-clause-answer
+returns-then-out-flags-clause-answer c = search posted
+
+pub returns-then-out-flags-clause-output : goal.returns-then-out-flags-clause-output
+returns-then-out-flags-clause-output c = search posted

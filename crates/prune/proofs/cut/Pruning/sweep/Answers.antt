@@ -7,6 +7,3 @@ loop-k-init c = search sweeping
 
 pub loop-k-preserved : goal.loop-k-preserved
 loop-k-preserved c = search sweeping
-
-pub returns : goal.returns
-returns c = search sweeping
