@@ -111,4 +111,3 @@ module _ (s : List ℕ) (k : ℕ) where
       → size ≡ number_at 2 (take (length s - 5 * k) (drop (5 * k) s)) 3 → record { at = at; size = size } ≡ placed_at 2 s k
   unfolding placed_at offset_of length_of entry_size
   placed_is at size p q = rw (p, q, take_rest s (5 * k), number_drop 1, number_drop 3)
-

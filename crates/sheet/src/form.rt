@@ -15,20 +15,6 @@ pub struct Place {
     pub size: usize,
 }
 
-// A byte as a number to count with.
-pub fn wide(x: u8) -> usize
-    ensures { (result ≡ x) × (x < 256) }
-{
-    x as usize
-}
-
-// The same of a number of two bytes.
-pub fn wide16(x: u16) -> usize
-    ensures { (result ≡ x) × (x < 65536) }
-{
-    x as usize
-}
-
 // The low byte of a number.
 pub fn low_byte(n: usize) -> u8
     ensures { result ≡ n % 256 }

@@ -31,7 +31,7 @@ pub fn first_lines(u: &[u8]) -> [u16; INDEX]
     ensures { result ≡ firsts_of u.now }
 {
     let mut firsts = [0u16; INDEX];
-    let mut line: usize = 0;
+    let mut line = 0;
     for (q, first) in firsts.iter_mut().enumerate() {
         line = skip_below(u, line, q);
         *first = line as u16;

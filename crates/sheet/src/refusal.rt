@@ -63,12 +63,3 @@ impl From<Refusal> for u8 {
         }
     }
 }
-
-impl Refusal {
-    // The same, for callers that take the number by name.
-    pub fn number(self) -> u8
-        ensures { result ≡ number_of self }
-    {
-        u8::from(self)
-    }
-}

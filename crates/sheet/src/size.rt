@@ -9,9 +9,10 @@ use crate::limits::MOST_POWER;
 pub fn power(base: u8, exponent: usize) -> usize
     ensures { (result ≡ power_to base exponent) × (result ≤ most_power) }
 {
-    let mut r: usize = 1;
+    // Not `saturating_pow`: its exponent is a u32, and none may be refused here.
+    let mut r = 1;
     for _ in 0..exponent {
-        r = r * usize::from(base);
+        r *= usize::from(base);
         if MOST_POWER < r {
             return MOST_POWER;
         }
@@ -23,7 +24,7 @@ pub fn power(base: u8, exponent: usize) -> usize
 pub fn nodes_at(positions: u16, actions: u8, delay: u8) -> usize
     ensures { (result ≡ positions * power_to actions (delay / 2)) × (result ≤ most_power * most_power) }
 {
-    positions as usize * power(actions, usize::from(delay) / 2)
+    usize::from(positions) * power(actions, usize::from(delay) / 2)
 }
 
 pub fn words_at(actions: u8, delay: u8) -> usize
