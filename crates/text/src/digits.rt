@@ -11,7 +11,7 @@ ghost use Rattle.text.specs.Fields.{word_text, set_text};
 use super::buffer::Page;
 use itoa::Buffer;
 
-// The form of a node: of how many actions its word has digits, and how many it has.
+// The form of a node: out of how many actions its word is, and how many the word has.
 #[derive(Clone, Copy)]
 pub struct Form {
     pub actions: usize,
