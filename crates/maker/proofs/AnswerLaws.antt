@@ -11,8 +11,8 @@ use Rattle.sheet.specs.declared.refusal.Refusal.{Refusal}
 use Rattle.reader.specs.declared.reading.Layout.{Layout}
 use Rattle.solver.specs.Solving.{solve_answer}
 use Rattle.maker.specs.Making.{Made, make_answer, if_made, output_after, Measured, measured}
-use Rattle.maker.specs.code.Checked.{Small, nodes_at, words_at, room_answer, Ready}
-use Rattle.maker.proofs.LayoutLaws.{small}
+use Rattle.maker.specs.code.Checked.{nodes_at, words_at, room_answer, Ready}
+use Rattle.maker.proofs.LayoutLaws.{Small, small}
 use Rattle.maker.proofs.RoomLaws.{Says, room_says}
 
 -- the contract for an answer, the number k that it hands on, and what the buffers hold after it; solving leaves M₂ and R₂ in them

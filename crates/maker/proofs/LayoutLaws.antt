@@ -1,16 +1,24 @@
 -- The numbers of an accepted game sheet's layout are small, and the game's own. Assumes nothing.
-use Prim.Native.Nat.{ℕ}
+use Prim.Native.Nat.{ℕ, ◌≤◌}
 use mathlib.Core.Path.{◌≡◌, sym, ◌∙◌, ap}
 use mathlib.Core.List.{List}
 use Rattle.theory.specs.Answer.{accepted}
 use Rattle.theory.specs.Delay.{initial_words, arena}
+use Rattle.sheet.specs.Limits.{most_positions, most_actions, most_delay}
 use Rattle.sheet.specs.Bodies.{delay_of}
 use Rattle.reader.specs.Reading.{read_answer}
 use Rattle.sheet.specs.SheetGame.{game_of}
 use Rattle.reader.specs.declared.reading.Layout.{Layout}
 use Rattle.reader.proofs.Accepted.{read_is, ranges, carries, arena_nodes}
 use Rattle.writer.specs.SheetBytes.{header_of}
-use Rattle.maker.specs.code.Checked.{Small, nodes_at, words_at, header_bytes}
+use Rattle.maker.specs.code.Checked.{nodes_at, words_at, header_bytes}
+
+-- what checks 2 and 3 leave of a layout's numbers
+pub record Small (l : Layout) : Type 0 where
+  pub some_position : 1 ≤ l.positions.size
+  pub few_positions : l.positions.size ≤ most_positions
+  pub few_actions : l.actions ≤ most_actions
+  pub short_delay : l.delay ≤ most_delay
 
 module _ (s : List ℕ) (l : Layout) (e : read_answer s ≡ accepted l) where
   pub small : Small l

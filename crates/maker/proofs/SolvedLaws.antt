@@ -35,9 +35,9 @@ use Rattle.solver.specs.declared.solve.Solution.TheVariants as solution
 use Rattle.writer.specs.SheetBytes.{rank_bytes, rank_sheet}
 use Rattle.writer.proofs.Readable.{Ranged, sheet_ranged}
 use Rattle.maker.specs.Making.{table_sheet_of, rank_sheet_of, Made, won, lost, made_of, make_answer, output_after, measure_of, measured}
-use Rattle.maker.specs.code.Checked.{Small, nodes_at, header_bytes, Ready, HasTable}
+use Rattle.maker.specs.code.Checked.{nodes_at, header_bytes, Ready, HasTable}
 use Rattle.maker.proofs.Made.{nodes_more, table_fits, ranks_fit}
-use Rattle.maker.proofs.LayoutLaws.{small, nodes_are, header_is}
+use Rattle.maker.proofs.LayoutLaws.{nodes_are, header_is}
 
 -- a made sheet is its verdict and its bytes
 
@@ -68,9 +68,6 @@ module _ (s : List ℕ) (l : Layout) (M R O : List ℕ) (ready : Ready s l (leng
 
   ranged : Ranged G d
   ranged = sheet_ranged s l ready.reads
-
-  ready_small : Small l
-  ready_small = small s l ready.reads
 
   solve_is : solve_answer s (length M) (length R) ≡ accepted (record { verdict = answer G d; layout = l })
   unfolding solve_answer on_accepted
@@ -168,8 +165,8 @@ module _ (s : List ℕ) (l : Layout) (M R O : List ℕ) (ready : Ready s l (leng
       losing_inside = rw (ranks_are, nodes) (omega (arith, final_length (arena G m), over_room (final_ranks (arena G m)) R))
 
       -- so the rank sheet can be written
-      pub loses : Small l × (m ≤ most_delay) × (nodes_at l m ≤ most_nodes) × (nodes_at l m ≤ length R')
-      loses = (ready_small, losing_short, losing_few, losing_inside)
+      pub loses : (m ≤ most_delay) × (nodes_at l m ≤ most_nodes) × (nodes_at l m ≤ length R')
+      loses = (losing_short, losing_few, losing_inside)
 
       losing_bytes : rank_bytes (header_bytes l m) (take (nodes_at l m) R') ≡ rank_sheet_of G m
       unfolding rank_sheet_of rank_sheet

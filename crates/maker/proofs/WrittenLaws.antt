@@ -17,7 +17,7 @@ use Rattle.sheet.specs.Limits.{most_nodes, most_words}
 use Rattle.sheet.specs.Bodies.{delay_of}
 use Rattle.sheet.specs.SheetGame.{game_of}
 use Rattle.reader.specs.declared.reading.Layout.{Layout}
-use Rattle.sheet.proofs.SizeLaws.{small_sizes}
+use borrow.Author.Rules.{rules}
 use Rattle.text.specs.Page.{Page, puts}
 use Rattle.region.specs.code.Flags.{flags_count, flags_after}
 use Rattle.region.proofs.FlagLaws.{words_counted, flags_theory}
@@ -25,9 +25,9 @@ use Rattle.writer.specs.SheetBytes.{table_bytes, table_sheet, rank_bytes, writte
 use Rattle.writer.proofs.Readable.{few_words, sheet_ranged}
 use Rattle.writer.proofs.WriteLaws.{written_whole, rank_size}
 use Rattle.maker.specs.Making.{table_sheet_of}
-use Rattle.maker.specs.code.Checked.{Small, nodes_at, header_bytes, HasTable}
+use Rattle.maker.specs.code.Checked.{nodes_at, header_bytes, HasTable}
 use Rattle.maker.proofs.Readable.{table_sheet_short}
-use Rattle.maker.proofs.LayoutLaws.{small, asked_nodes, asked_header}
+use Rattle.maker.proofs.LayoutLaws.{Small, small, asked_nodes, asked_header}
 
 -- the entries of a part of a buffer
 pub counted_inside : (n N : ℕ) (xs : List ℕ) → n ≡ N → N ≤ length xs → n ≡ length (take n xs)
@@ -47,7 +47,7 @@ module _ (l : Layout) (m n : ℕ) (h xs : List ℕ) (en : n ≡ nodes_at l m) (e
       ∙ ap (λ b. puts p (rank_bytes b (take n xs))) eh
       ∙ ap (λ k. puts p (rank_bytes (header_bytes l m) (take k xs))) en
 
-pub ruleset rank_sheets = (small_sizes, counted_inside, ranks_written)
+pub ruleset rank_sheets = (rules, counted_inside, ranks_written)
 
 -- the table sheet; n nodes and w first words as the code has counted them, F the flags in a buffer that was B
 module _ (s : List ℕ) (l : Layout) (M R : List ℕ) (has : HasTable s l M R) where
@@ -57,14 +57,8 @@ module _ (s : List ℕ) (l : Layout) (M R : List ℕ) (has : HasTable s l M R) w
   abbrev d : ℕ
   d = delay_of s
 
-  pub has_small : Small l
+  has_small : Small l
   has_small = small s l has.reads
-
-  pub has_positions : l.positions.size < 65536
-  has_positions = omega (arith, has_small.few_positions)
-
-  pub has_actions : l.actions ≤ 8
-  has_actions = has_small.few_actions
 
   pub has_delay : l.delay ≤ 6
   has_delay = has_small.short_delay
@@ -111,4 +105,4 @@ module _ (s : List ℕ) (l : Layout) (M R : List ℕ) (has : HasTable s l M R) w
           ∙ ap (puts p) (written_whole 2 (table_sheet_of G d) (table_sheet_short G d (sheet_ranged s l has.reads)))
 
 pub ruleset table_sheets =
-    (small_sizes, has_small, has_positions, has_actions, has_delay, masks_inside, flags_room, flags_inside, table_written)
+    (rules, has_delay, masks_inside, flags_room, flags_inside, table_written)

@@ -2,3 +2,4 @@
 #![tactic(auto)]
 
 pub mod making; // making a sheet
+mod sizes; // what the numbers of a sheet that was read come to

@@ -5,20 +5,12 @@ use Rattle.theory.specs.Answer.{Answer, accepted, check}
 use Rattle.theory.specs.Strategy.{initial_length}
 use Rattle.theory.specs.Rounds.{masks, final_ranks}
 use Rattle.theory.specs.Delay.{arena}
-use Rattle.sheet.specs.Limits.{most_positions, most_actions, most_delay}
 use Rattle.sheet.specs.Size.{nodes_of}
 use Rattle.sheet.specs.Bodies.{delay_of}
 use Rattle.reader.specs.Reading.{read_answer}
 use Rattle.sheet.specs.SheetGame.{game_of}
 use Rattle.reader.specs.declared.reading.Layout.{Layout}
 use Rattle.maker.specs.Making.{output_size}
-
--- what checks 2 and 3 leave of a layout's numbers
-pub record Small (l : Layout) : Type 0 where
-  pub some_position : 1 ≤ l.positions.size
-  pub few_positions : l.positions.size ≤ most_positions
-  pub few_actions : l.actions ≤ most_actions
-  pub short_delay : l.delay ≤ most_delay
 
 -- the nodes at delay m and the first words at the asked one, by a layout's numbers
 abbrev pub nodes_at : Layout → ℕ → ℕ

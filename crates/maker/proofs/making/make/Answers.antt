@@ -13,8 +13,10 @@ use Rattle.maker.proofs.making.make.Goals as goal
 pub returns-in_default : goal.returns-in_default
 returns-in_default c = refuses _ _ _ (reading_refused _ _ c.read-reading.ensures _ _ _ _ c.unwrap_err.ensures) _ _ _ _ _
 
-pub check_room-requires : goal.check_room-requires
-check_room-requires c = read_small _ _ c.read-reading.ensures _ c.in-Ok.is
+pub invariant_of-small : goal.invariant_of-small
+invariant_of-small c =
+    let h = read_small _ _ c.read-reading.ensures _ c.in-Ok.is in
+    record { some_position = h.some_position; few_positions = h.few_positions; few_actions = h.few_actions; short_delay = h.short_delay }
 
 pub returns-in_err-check_room : goal.returns-in_err-check_room
 returns-in_err-check_room c =

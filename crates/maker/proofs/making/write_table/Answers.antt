@@ -2,11 +2,8 @@
 use Rattle.maker.proofs.WrittenLaws.{table_sheets}
 use Rattle.maker.proofs.making.write_table.Goals as goal
 
-pub overflow_cast-positions : goal.overflow_cast-positions
-overflow_cast-positions c = search table_sheets
-
-pub header-h-requires : goal.header-h-requires
-header-h-requires c = search table_sheets
+pub nodes-nodes-requires : goal.nodes-nodes-requires
+nodes-nodes-requires c = search table_sheets
 
 pub slice_bounds-flags-end : goal.slice_bounds-flags-end
 slice_bounds-flags-end c = search table_sheets

@@ -1,6 +1,6 @@
 -- `check_room` meets its contract, by the laws of RoomLaws.antt. Assumes nothing.
 use Rattle.maker.proofs.RoomLaws.{rooms}
-use Rattle.maker.proofs.making.check_room.Goals as goal
+use Rattle.maker.proofs.sizes.SmallLayout.check_room.Goals as goal
 
 pub returns-then-min-nodes : goal.returns-then-min-nodes
 returns-then-min-nodes c = search rooms
