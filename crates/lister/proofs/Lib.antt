@@ -1,5 +1,4 @@
 -- Laws of specs/, on which the proofs of the functions rest.
-pub mod TextLaws
 pub mod Words
 pub mod SolvedLaws
 pub mod InputLaws
