@@ -47,7 +47,7 @@ module _ (l : Layout) (m n : ℕ) (h xs : List ℕ) (en : n ≡ nodes_at l m) (e
       ∙ ap (λ b. puts p (rank_bytes b (take n xs))) eh
       ∙ ap (λ k. puts p (rank_bytes (header_bytes l m) (take k xs))) en
 
-pub ruleset rank_sheets = (rules, counted_inside, ranks_written)
+pub ruleset rank_sheets = (rules, counted_inside)
 
 -- the table sheet; n nodes and w first words as the code has counted them, F the flags in a buffer that was B
 module _ (s : List ℕ) (l : Layout) (M R : List ℕ) (has : HasTable s l M R) where
