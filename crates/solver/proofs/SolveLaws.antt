@@ -1,7 +1,8 @@
 -- Filling both buffers, and solving, as the code of src/solve.rt finds them. Assumes nothing.
-use Prim.Native.Nat.{ℕ, ◌≤◌, ◌<◌}
+use Prim.Native.Nat.{ℕ, min, ◌≤◌, ◌<◌}
 use mathlib.Core.Path.{◌≡◌, refl, sym, ◌∙◌, ap}
 use mathlib.Core.Bool.{Bool, true, false}
+use mathlib.Core.Logic.{⊎_elim}
 use mathlib.Core.List.{List, ◌++◌}
 use native.Mathlib.Omega.{arith}
 use native.Mathlib.Nat.{le_refl}
@@ -14,7 +15,7 @@ use Rattle.theory.specs.Answer.{refused, accepted, on_accepted}
 use Rattle.theory.specs.Game.{Game, Legal}
 use Rattle.theory.specs.Rounds.{masks, masks_by, final_ranks}
 use Rattle.theory.specs.Delay.{Verdict, wins, losing, arena, answer}
-use Rattle.theory.proofs.Fold.{both_true, both_false, both_none}
+use Rattle.theory.proofs.Fold.{below?, both_true, both_false, both_none}
 use Rattle.theory.proofs.Answer.{check_passed, check_failed}
 use Rattle.theory.proofs.Rounds.{final_length}
 use Rattle.theory.proofs.Region.{length_masks}
@@ -223,43 +224,34 @@ module _ (s : List ℕ) (rd : Result Layout Refusal) (e : answer_of rd ≡ read_
       abbrev owed : ℕ
       owed = (arena (game_of s) (delay_of s)).nodes
 
-      abbrev roomy : ℕ → ℕ → Bool
-      roomy m k = both (leb owed m) (leb owed k)
+      abbrev room_for : ℕ → ℕ → Bool
+      room_for m k = both (leb owed m) (leb owed k)
 
-      few_masks : (m k : ℕ) → m < v.nodes → roomy m k ≡ false
-      few_masks m k h = let n = nodes_read in both_none _ _ (lt-leb owed m (omega arith))
+      short : (m k : ℕ) → min m k < v.nodes → room_for m k ≡ false
+      short m k h =
+          let n = nodes_read in
+          ⊎_elim
+          (λ (a : m < owed). both_none _ _ (lt-leb owed m a))
+          (λ (a : owed ≤ m). both_false _ _ (lt-leb owed k (omega arith)))
+          (below? m owed)
 
-      few_ranks : (m k : ℕ) → k < v.nodes → roomy m k ≡ false
-      few_ranks m k h = let n = nodes_read in both_false _ _ (lt-leb owed k (omega arith))
-
-      refuses_8 : (m k : ℕ) → roomy m k ≡ false → solve_answer s m k ≡ refused 8
+      refuses_8 : (m k : ℕ) → room_for m k ≡ false → solve_answer s m k ≡ refused 8
       unfolding solve_answer on_accepted
       refuses_8 m k f = rw answered (check_failed _ 8 _ f)
 
-      pub masks_refused : (m k : ℕ) → m < v.nodes → refused (number_of Buffers) ≡ solve_answer s m k
-      masks_refused m k h = sym (refuses_8 m k (few_masks m k h))
+      pub refuses_short : (m k : ℕ) → min m k < v.nodes → refused (number_of Buffers) ≡ solve_answer s m k
+      refuses_short m k h = sym (refuses_8 m k (short m k h))
 
-      pub ranks_refused : (m k : ℕ) → k < v.nodes → refused (number_of Buffers) ≡ solve_answer s m k
-      ranks_refused m k h = sym (refuses_8 m k (few_ranks m k h))
-
-      pub masks_kept_1 : (b : List ℕ) (m k : ℕ) → m < v.nodes → b ≡ masks_left s (solve_answer s m k) b
+      pub masks_kept : (b : List ℕ) (m k : ℕ) → min m k < v.nodes → b ≡ masks_left s (solve_answer s m k) b
       unfolding masks_left
-      masks_kept_1 b m k h = rw (refuses_8 m k (few_masks m k h))
+      masks_kept b m k h = rw (refuses_8 m k (short m k h))
 
-      pub ranks_kept_1 : (b : List ℕ) (m k : ℕ) → m < v.nodes → b ≡ ranks_left s (solve_answer s m k) b
+      pub ranks_kept : (b : List ℕ) (m k : ℕ) → min m k < v.nodes → b ≡ ranks_left s (solve_answer s m k) b
       unfolding ranks_left
-      ranks_kept_1 b m k h = rw (refuses_8 m k (few_masks m k h))
-
-      pub masks_kept_2 : (b : List ℕ) (m k : ℕ) → k < v.nodes → b ≡ masks_left s (solve_answer s m k) b
-      unfolding masks_left
-      masks_kept_2 b m k h = rw (refuses_8 m k (few_ranks m k h))
-
-      pub ranks_kept_2 : (b : List ℕ) (m k : ℕ) → k < v.nodes → b ≡ ranks_left s (solve_answer s m k) b
-      unfolding ranks_left
-      ranks_kept_2 b m k h = rw (refuses_8 m k (few_ranks m k h))
+      ranks_kept b m k h = rw (refuses_8 m k (short m k h))
 
       -- both buffers have room, and g and u are the grid and the U body
-      module _ (m k : List ℕ) (hm : v.nodes ≤ length m) (hk : v.nodes ≤ length k) (g : List (List ℕ)) (u : List ℕ) (eg : g ≡ grid_at s l)
+      module _ (m k : List ℕ) (roomy : v.nodes ≤ min (length m) (length k)) (g : List (List ℕ)) (u : List ℕ) (eg : g ≡ grid_at s l)
           (eu : u ≡ part_at s l.moves) where
         solved : solve_answer s (length m) (length k) ≡ accepted (record { verdict = answer (game_of s) (delay_of s); layout = l })
         unfolding solve_answer on_accepted

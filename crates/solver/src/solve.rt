@@ -67,10 +67,8 @@ pub fn solve(sheet: &[u8], masks: &mut [u8], ranks: &mut [u16]) -> Result<Soluti
     };
     let positions = part(sheet, l.positions);
     let level = level_at(positions.len(), l.start, l.actions, l.delay);
-    if masks.len() < level.nodes {
-        return Err(Refusal::Buffers);
-    }
-    if ranks.len() < level.nodes {
+    let room = masks.len().min(ranks.len());
+    if room < level.nodes {
         return Err(Refusal::Buffers);
     }
     let grid = grid_at(sheet, l);
