@@ -3,10 +3,7 @@
 ghost use Rattle.std.specs.Prelude.{◌≡◌, ◌≤◌, ◌<◌};
 ghost use Rattle.sheet.specs.Limits.{most_moves, most_positions};
 ghost use Rattle.solver.specs.code.Sizes.{most_cells, word_bound};
-ghost use Rattle.solver.specs.code.Chains.{head_of};
-ghost use Rattle.solver.specs.code.Work.{marks_to};
-ghost use Rattle.solver.specs.code.Spread.{spot, Spotted, caller_at, word_at, callers, source_at, sources, even_nodes, odd_nodes};
-ghost use Rattle.solver.specs.code.Seen.{Seen};
+ghost use Rattle.solver.specs.code.Spread.{spot, Spotted, caller_at, word_at, source_at};
 
 use crate::index::Index;
 use crate::mark::Worklist;
@@ -58,12 +55,12 @@ impl Spot {
 }
 
 impl Index<'_> {
-    ghost use Rattle.solver.specs.code.Views.{listed, spotted, Turned};
+    ghost use Rattle.solver.specs.code.Views.{callers_of, sources_of, even_nodes_of, odd_nodes_of, Marked, Noted};
 
     // At the nodes whose oldest action, played at their position, leads to target t.
+    #[tactic(auto, unfolding(crate::specs::code::Spread::callers))]
     fn mark_callers(&self, spot: Spot, t: usize, work: &mut Worklist)
-        ensures { Turned work.old (marks_to spot.n spot.action (listed work.old)
-            (callers self.now.leading.now.links (spotted spot) (head_of self.now.leading.now.heads t))) work.new }
+        ensures { Marked work.old spot (callers_of self.now spot t) work.new }
     {
         for x in self.leading.places(t) {
             work.mark(spot.n, spot.action, spot.caller_at(x));
@@ -71,10 +68,10 @@ impl Index<'_> {
     }
 
     // At the nodes with this word, from whose position a move reaches q.
+    #[tactic(auto, unfolding(crate::specs::code::Spread::sources))]
     fn mark_sources(&self, spot: Spot, word: usize, q: usize, work: &mut Worklist)
         requires { word < word_bound }
-        ensures { Turned work.old (marks_to spot.n spot.action (listed work.old)
-            (sources self.now.moves.now self.now.reaching.now.links (spotted spot) word (head_of self.now.reaching.now.heads q))) work.new }
+        ensures { Marked work.old spot (sources_of self.now spot word q) work.new }
     {
         for i in self.reaching.places(q) {
             work.mark(spot.n, spot.action, spot.source_at(self.moves, word, i));
@@ -85,11 +82,9 @@ impl Index<'_> {
     // queue has room: every bit is out then.
     fn mark_target(&self, spot: Spot, t: usize, seen: &mut [bool], work: &mut Worklist)
         requires { (t < most_positions)
-            × (Seen self.now.leading.now.heads self.now.leading.now.links spot.words spot.younger spot.actions seen.old work.old.masks.now) }
-        ensures calls { Turned work.old (marks_to spot.n spot.action (listed work.old)
-            (callers self.now.leading.now.links (spotted spot) (head_of self.now.leading.now.heads t))) work.new }
-        ensures notes { Seen self.now.leading.now.heads self.now.leading.now.links spot.words spot.younger spot.actions seen.new
-            work.new.masks.now }
+            × (Noted self.now spot.words spot.younger spot.actions seen.old work.old) }
+        ensures calls { Marked work.old spot (callers_of self.now spot t) work.new }
+        ensures notes { Noted self.now spot.words spot.younger spot.actions seen.new work.new }
     {
         let s = t * spot.words + spot.word;
         if s < seen.len() && seen[s] {
@@ -105,13 +100,11 @@ impl Index<'_> {
     }
 
     // Even delays: a caller's action leads to a position from where a move leads to the fallen node's, q.
+    #[tactic(auto, unfolding(crate::specs::code::Spread::even_nodes))]
     pub(crate) fn spread_even(&self, spot: Spot, q: usize, seen: &mut [bool], work: &mut Worklist)
-        requires { Seen self.now.leading.now.heads self.now.leading.now.links spot.words spot.younger spot.actions seen.old work.old.masks.now }
-        ensures calls { Turned work.old (marks_to spot.n spot.action (listed work.old)
-            (even_nodes self.now.moves.now self.now.reaching.now.links self.now.leading.now.heads self.now.leading.now.links (spotted spot)
-            (head_of self.now.reaching.now.heads q))) work.new }
-        ensures notes { Seen self.now.leading.now.heads self.now.leading.now.links spot.words spot.younger spot.actions seen.new
-            work.new.masks.now }
+        requires { Noted self.now spot.words spot.younger spot.actions seen.old work.old }
+        ensures calls { Marked work.old spot (even_nodes_of self.now spot q) work.new }
+        ensures notes { Noted self.now spot.words spot.younger spot.actions seen.new work.new }
     {
         for i in self.reaching.places(q) {
             self.mark_target(spot, usize::from(byte(self.moves, 2 * i)), seen, work);
@@ -119,10 +112,9 @@ impl Index<'_> {
     }
 
     // Odd delays: a move leads to a position from where the oldest action leads to the fallen node's, q.
+    #[tactic(auto, unfolding(crate::specs::code::Spread::odd_nodes))]
     pub(crate) fn spread_odd(&self, spot: Spot, q: usize, work: &mut Worklist)
-        ensures { Turned work.old (marks_to spot.n spot.action (listed work.old)
-            (odd_nodes self.now.moves.now self.now.reaching.now.links self.now.reaching.now.heads self.now.leading.now.links (spotted spot)
-            (head_of self.now.leading.now.heads q))) work.new }
+        ensures { Marked work.old spot (odd_nodes_of self.now spot q) work.new }
     {
         for x in self.leading.places(q) {
             self.mark_sources(spot, spot.word_at(x), x / ROW, work);

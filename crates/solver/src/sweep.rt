@@ -1,7 +1,6 @@
 // All nodes of one rank are spread, in the order of the queue.
 ghost use Rattle.std.specs.Prelude.{◌≡◌, ◌-◌, ◌≤◌, ◌<◌, length};
 ghost use Rattle.solver.specs.code.Sizes.{largest16};
-ghost use Rattle.solver.specs.code.Seen.{Seen};
 ghost use Rattle.solver.specs.code.Sweep.{Fitted, spot_at, spread_to, sweep_to};
 
 use crate::index::Index;
@@ -20,7 +19,7 @@ pub(crate) struct Round {
 }
 
 impl Round {
-    ghost use Rattle.solver.specs.code.Views.{indexed, listed, spotted, Turned};
+    ghost use Rattle.solver.specs.code.Views.{indexed, listed, spotted, Noted, Turned};
 
     // The action and the younger actions of node j's word.
     fn spot(self, j: usize) -> Spot
@@ -41,11 +40,9 @@ impl Round {
 
     // Node j, which fell in round n.
     fn spread(self, index: &Index, j: usize, seen: &mut [bool], work: &mut Worklist)
-        requires { Seen index.now.leading.now.heads index.now.leading.now.links self.level.words self.younger self.level.actions seen.old
-            work.old.masks.now }
+        requires { Noted index.now self.level.words self.younger self.level.actions seen.old work.old }
         ensures calls { Turned work.old (spread_to (indexed index.now) self.level self.younger self.n (listed work.old) j) work.new }
-        ensures notes { Seen index.now.leading.now.heads index.now.leading.now.links self.level.words self.younger self.level.actions seen.new
-            work.new.masks.now }
+        ensures notes { Noted index.now self.level.words self.younger self.level.actions seen.new work.new }
     {
         let spot = self.spot(j);
         let q = j / self.level.words;
@@ -65,12 +62,10 @@ impl Round {
         seen: &mut [bool],
         work: &mut Worklist,
     )
-        requires { (hi ≤ length work.old.queue.now) × (Seen index.now.leading.now.heads index.now.leading.now.links self.level.words self.younger
-            self.level.actions seen.old work.old.masks.now) }
+        requires { (hi ≤ length work.old.queue.now) × (Noted index.now self.level.words self.younger self.level.actions seen.old work.old) }
         ensures calls { Turned work.old (sweep_to (indexed index.now) self.level self.younger self.n (listed work.old) lo (hi - lo))
             work.new }
-        ensures notes { Seen index.now.leading.now.heads index.now.leading.now.links self.level.words self.younger self.level.actions seen.new
-            work.new.masks.now }
+        ensures notes { Noted index.now self.level.words self.younger self.level.actions seen.new work.new }
     {
         for at in lo..hi {
             let j = usize::from(work.queue[at]);

@@ -1,5 +1,5 @@
 -- The code's structs, seen as what the definitions speak of. Assumes nothing.
-use Rattle.std.specs.Prelude.{ℕ, ◌≡◌, List, length}
+use Rattle.std.specs.Prelude.{ℕ, ◌≡◌, Bool, List, length}
 use Rattle.theory.specs.Game.{Game}
 use Rattle.sheet.specs.code.Arrays.{view_of, firsts_of, bodies_game}
 use Rattle.reader.specs.declared.reading.Layout.{Layout}
@@ -9,7 +9,9 @@ use Rattle.solver.specs.declared.mark.Worklist.{Worklist}
 use Rattle.solver.specs.declared.spread.Spot.{Spot}
 use Rattle.solver.specs.code.Spread as spread
 use Rattle.solver.specs.code.Sweep as sweep
-use Rattle.solver.specs.code.Work.{Work, work}
+use Rattle.solver.specs.code.Chains.{head_of}
+use Rattle.solver.specs.code.Work.{Work, work, marks_to}
+use Rattle.solver.specs.code.Seen.{Seen}
 use Rattle.solver.specs.code.Working.{Workable, Levelable}
 use Rattle.solver.specs.code.Search.{Searchable, Fillable}
 
@@ -33,6 +35,29 @@ spotted s = spread.spot s.n s.words s.younger s.actions s.word s.rest s.action
 
 abbrev pub indexed : Index → sweep.Index
 indexed x = sweep.index x.moves.now x.reaching.now.heads x.reaching.now.links x.leading.now.heads x.leading.now.links
+
+-- a spot's action spoilt at these nodes
+abbrev pub Marked : Worklist → Spot → List ℕ → Worklist → Type 0
+Marked before s ks after = Turned before (marks_to s.n s.action (listed before) ks) after
+
+-- the nodes of a spot that lead to target t, that move to position q with a word, and that a node at position q is an outcome of
+abbrev pub callers_of : Index → Spot → ℕ → List ℕ
+callers_of x s t = spread.callers x.leading.now.links (spotted s) (head_of x.leading.now.heads t)
+
+abbrev pub sources_of : Index → Spot → ℕ → ℕ → List ℕ
+sources_of x s word q = spread.sources x.moves.now x.reaching.now.links (spotted s) word (head_of x.reaching.now.heads q)
+
+abbrev pub even_nodes_of : Index → Spot → ℕ → List ℕ
+even_nodes_of x s q =
+    spread.even_nodes x.moves.now x.reaching.now.links x.leading.now.heads x.leading.now.links (spotted s) (head_of x.reaching.now.heads q)
+
+abbrev pub odd_nodes_of : Index → Spot → ℕ → List ℕ
+odd_nodes_of x s q =
+    spread.odd_nodes x.moves.now x.reaching.now.links x.reaching.now.heads x.leading.now.links (spotted s) (head_of x.leading.now.heads q)
+
+-- what is noted was done: the masks of a list have no bit that a note says is out
+abbrev pub Noted : Index → ℕ → ℕ → ℕ → List Bool → Worklist → Type 0
+Noted x words younger actions seen w = Seen x.leading.now.heads x.leading.now.links words younger actions seen w.masks.now
 
 -- the arena and the index of a level that can be solved by the worklist, where a word has so many younger words; and of any level
 abbrev pub CanWork : Arena → Index → ℕ → Type 0

@@ -1,8 +1,7 @@
 -- `all_rounds` meets its contract. The nodes of rank n are to be swept, and each sweep that is not the last has more nodes fallen. Assumes nothing.
 use Rattle.std.proofs.Common.{◌-◌}
 use Rattle.walk.specs.code.Arenas.{arena_in}
-use Rattle.solver.specs.code.Seen.{Seen}
-use Rattle.solver.specs.code.Views.{listed, Same}
+use Rattle.solver.specs.code.Views.{listed, Noted, Same}
 use Rattle.solver.proofs.WorkLaws.{Rounding}
 use Rattle.solver.proofs.work.all_rounds.Given as goal
 
@@ -10,7 +9,7 @@ abbrev pub invariant-rounds : goal.invariant-rounds
 invariant-rounds l =
     Same l.fn.work l.work
     × Rounding (arena_in l.arena) l.n l.lo l.hi (listed l.work)
-    × Seen l.index.leading.now.heads l.index.leading.now.links l.arena.level.words l.younger l.arena.level.actions l.seen l.work.masks.now
+    × Noted l.index l.arena.level.words l.younger l.arena.level.actions l.seen l.work
 
 abbrev pub decreases-rounds : goal.decreases-rounds
 decreases-rounds l = l.arena.level.nodes - l.hi

@@ -1,12 +1,7 @@
 -- `mark_callers` meets its contract. What is to be marked from here on is all that was to be marked. Assumes nothing.
 use Rattle.std.proofs.Common.{rules}
-use Rattle.solver.specs.code.Spread.{callers}
 use Rattle.solver.proofs.SpreadLaws.{marks_step, marks_done}
 use Rattle.solver.proofs.index.Index.mark_callers.Goals as goal
-
-pub loop-x-init : goal.loop-x-init
-unfolding callers
-loop-x-init c = (search rules, cc)
 
 pub loop-x-preserved : goal.loop-x-preserved
 loop-x-preserved c =

@@ -1,12 +1,7 @@
 -- `mark_sources` meets its contract. What is to be marked from here on is all that was to be marked. Assumes nothing.
 use Rattle.std.proofs.Common.{rules}
-use Rattle.solver.specs.code.Spread.{sources}
 use Rattle.solver.proofs.SpreadLaws.{marks_step, marks_done}
 use Rattle.solver.proofs.index.Index.mark_sources.Goals as goal
-
-pub loop-i-init : goal.loop-i-init
-unfolding sources
-loop-i-init c = (search rules, cc)
 
 pub loop-i-preserved : goal.loop-i-preserved
 loop-i-preserved c =

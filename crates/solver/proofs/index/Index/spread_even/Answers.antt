@@ -1,12 +1,7 @@
 -- `spread_even` meets its contract. What is to be marked from here on is all that was to be marked. Assumes nothing.
 use Rattle.std.proofs.Common.{rules}
-use Rattle.solver.specs.code.Spread.{even_nodes}
 use Rattle.solver.proofs.SpreadLaws.{gather_step, gather_done}
 use Rattle.solver.proofs.index.Index.spread_even.Goals as goal
-
-pub loop-i-init : goal.loop-i-init
-unfolding even_nodes
-loop-i-init c = (search rules, c.requires, cc)
 
 pub loop-i-preserved : goal.loop-i-preserved
 loop-i-preserved c = (

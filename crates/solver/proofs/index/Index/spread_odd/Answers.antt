@@ -1,12 +1,7 @@
 -- `spread_odd` meets its contract. What is to be marked from here on is all that was to be marked. Assumes nothing.
 use Rattle.std.proofs.Common.{rules}
-use Rattle.solver.specs.code.Spread.{odd_nodes}
 use Rattle.solver.proofs.SpreadLaws.{gather_step, gather_done}
 use Rattle.solver.proofs.index.Index.spread_odd.Goals as goal
-
-pub loop-x-init : goal.loop-x-init
-unfolding odd_nodes
-loop-x-init c = (search rules, cc)
 
 pub loop-x-preserved : goal.loop-x-preserved
 loop-x-preserved c =
