@@ -27,9 +27,8 @@ pub fn grid_of(c: &[u8]) -> Grid
 pub fn target(grid: &Grid, q: usize, x: usize) -> u16
     ensures { unmark result ≡ target_at grid.now q x }
 {
-    if q < ROWS && x < ROW {
-        grid[q][x]
-    } else {
-        ABSENT
+    if ROWS <= q || ROW <= x {
+        return ABSENT;
     }
+    grid[q][x]
 }
