@@ -56,6 +56,7 @@ fn flag_stands(flags: &[u8], good: &[u8], v: usize) -> bool
 fn first_wrong(flags: &[u8], good: &[u8]) -> Option<usize>
     ensures { result ≡ first_failing (flag_stands flags.now good.now) (length flags.now) }
 {
+    // not `position` over both slices together, which would end with the shorter
     for v in 0..flags.len() {
         if !flag_stands(flags, good, v) {
             return Some(v);
@@ -89,6 +90,7 @@ fn first_unsound(arena: &Arena, masks: &[u8], marks: &[u16]) -> Option<usize>
     requires { IsSized arena.now }
     ensures { result ≡ first_failing (whole_at (arena_in arena.now) marks.now masks.now) arena.now.level.nodes }
 {
+    // not `find`, whose closure must take every number: `is_whole` takes nodes alone
     for k in 0..arena.level.nodes {
         if !is_whole(arena, masks, marks, k) {
             return Some(k);

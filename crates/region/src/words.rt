@@ -69,6 +69,7 @@ impl Kept<'_> {
         requires { (IsSized self.now) × (self.now.level.start < most_positions) }
         ensures { result ≡ any_below (good self.now) (first_words self.now.level) }
     {
+        // not `any`, whose closure must take every number: `good` takes words alone
         for v in 0..self.words() {
             if self.good(v) {
                 return true;

@@ -55,6 +55,7 @@ fn round(arena: &Arena, ranks: &mut [u16], n: u16) -> bool
     ensures { RoundLeaves arena.now n ranks.old ranks.new result }
 {
     let mut any = false;
+    // by index, since the walk reads all ranks while one is written
     for k in 0..arena.level.nodes {
         let fallen = Fallen {
             marks: ranks,
@@ -85,7 +86,7 @@ fn all_rounds(arena: &Arena, ranks: &mut [u16]) -> u16
     last
 }
 
-// The same for any level and buffer: nothing is done, and the number is 0, where the level is too large or the buffer has not one
+// The same for any level and buffer: no round is done, so their number is 0, where the level is too large or the buffer has not one
 // entry for each node.
 #[tactic(auto, unfolding(crate::specs::code::Falling::Ranked, walk::specs::code::Nodes::is_fitted, theory::specs::Fold::both))]
 pub fn rounds(arena: &Arena, ranks: &mut [u16]) -> u16

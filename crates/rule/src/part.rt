@@ -25,6 +25,7 @@ pub fn fill_marks(masks: &[u8], marks: &mut [u16])
     if marks.len() < mask_count(masks) {
         return;
     }
+    // by index, which two slices share, masks being read as numbers
     for k in 0..mask_count(masks) {
         marks[k] = mark_for(mask_of(masks, k));
     }
@@ -38,7 +39,8 @@ fn unspoilt_part(arena: &Arena, marks: &[u16], k: usize, mask: usize) -> usize
     let fallen = Fallen { marks, last: 1 };
     let mut part: usize = 0;
     for c in 0..arena.level.actions {
-        if (mask >> c) % 2 == 1 && !arena.spoilt(&fallen, k, c) {
+        let left = mask >> c;
+        if left % 2 == 1 && !arena.spoilt(&fallen, k, c) {
             part += 1 << c;
         }
     }

@@ -4,8 +4,8 @@ use Rattle.theory.proofs.Masks.{mask_first}
 use Rattle.region.proofs.MaskLaws.{bit_shifted, mask_set, mask_kept, mask_fits}
 use Rattle.rule.proofs.PartCode.{bit_out, bit_stays}
 use Rattle.rule.proofs.part.unspoilt_part.Goals as goal
-use Rattle.rule.proofs.part.unspoilt_part.Goals.{then-mask-c-eq1+then-not-spoilt, else-mask-c-eq1}
-use Rattle.rule.proofs.part.unspoilt_part.Goals.{else-mask-c-eq1-via-then-mask-c-eq1+else-not-spoilt, else-mask-c-eq1-via-else-mask-c-eq1}
+use Rattle.rule.proofs.part.unspoilt_part.Goals.{then-left-eq1+then-not-spoilt, else-left-eq1}
+use Rattle.rule.proofs.part.unspoilt_part.Goals.{else-left-eq1-via-then-left-eq1+else-not-spoilt, else-left-eq1-via-else-left-eq1}
 
 pub loop-c-init : goal.loop-c-init
 loop-c-init c = mask_first _
@@ -21,16 +21,16 @@ loop-c-preserved c =
     let l = c.loop-c in
     let i = c.requires in
     let h = c.loop-c-test.true in
-    elim c.if-mask-c-eq1.branch [
-      | then-mask-c-eq1+then-not-spoilt w ↦
+    elim c.if-left-eq1.branch [
+      | then-left-eq1+then-not-spoilt w ↦
           mask_set _ l.c l.invariant w.part-is (bit_shifted l.c h i.0.few_actions (omega arith))
-          (bit_stays _ _ _ _ _ _ _ _ l.c i.0 i.1 h w.if-mask-c-eq1.true w.spoilt.ensures ∙ ap not w.if-not-spoilt.true)
-      | else-mask-c-eq1 w ↦
-          elim w.else-mask-c-eq1.branch [
-            | else-mask-c-eq1-via-then-mask-c-eq1+else-not-spoilt v ↦
+          (bit_stays _ _ _ _ _ _ _ _ l.c i.0 i.1 h w.if-left-eq1.true w.spoilt.ensures ∙ ap not w.if-not-spoilt.true)
+      | else-left-eq1 w ↦
+          elim w.else-left-eq1.branch [
+            | else-left-eq1-via-then-left-eq1+else-not-spoilt v ↦
                 mask_kept _ l.c l.invariant w.part-is
-                (bit_stays _ _ _ _ _ _ _ _ l.c i.0 i.1 h v.if-mask-c-eq1.true v.spoilt.ensures ∙ ap not v.if-not-spoilt.false)
-            | else-mask-c-eq1-via-else-mask-c-eq1 v ↦
-                mask_kept _ l.c l.invariant w.part-is (bit_out _ _ _ _ _ _ _ _ l.c v.if-mask-c-eq1.false)
+                (bit_stays _ _ _ _ _ _ _ _ l.c i.0 i.1 h v.if-left-eq1.true v.spoilt.ensures ∙ ap not v.if-not-spoilt.false)
+            | else-left-eq1-via-else-left-eq1 v ↦
+                mask_kept _ l.c l.invariant w.part-is (bit_out _ _ _ _ _ _ _ _ l.c v.if-left-eq1.false)
           ]
     ]
