@@ -36,7 +36,8 @@ pub(crate) fn action_of(actions: u8, n: usize, word: usize, i: usize) -> u8
     (left % base) as u8
 }
 
-// The node of a position and the word of the n newest actions, the oldest leading.
+// The node of a position and the word of the n newest actions, the oldest leading. By index, as the slice from its last entry on reads no
+// plainer.
 fn node_of(actions: u8, position: u8, last: [u8; HELD], n: usize) -> usize
     requires { n ≤ most_held }
     ensures { result ≡ position * actions ^ n + word_of actions (take n last) }

@@ -14,7 +14,7 @@ fn held_at(actions: u8, last: [u8; HELD], k: usize) -> bool
     last.get(k).copied().unwrap_or(0) < actions
 }
 
-// Are the n newest actions held below the number of actions?
+// Are the n newest actions held below the number of actions? By index, here and for the slots, as n may be over what an array has.
 fn held_ok(actions: u8, last: [u8; HELD], n: usize) -> bool
     ensures { result ≡ all_below (held_at actions last) n }
 {
