@@ -9,9 +9,10 @@ use crate::cut::Pruning;
 use sheet::limits::{ROW, ROWS};
 use walk::level::Level;
 
-// For each position a bit for each position from where a move leads to it.
-pub(crate) const MOVES_ROW: usize = 32;
+// The bytes of a position's row of moves.
+pub(crate) const MOVES_ROW: usize = ROWS / 8;
 
+// For each position a bit for each position from where a move leads to it: a byte for each would take 64 KiB of a caller's stack.
 pub type Moves = [[u8; MOVES_ROW]; ROWS];
 
 // Does a move lead from position q to r?
@@ -32,7 +33,8 @@ pub(crate) fn note_moves(u: &[u8], moves: &mut Moves) {
 }
 
 // A fallen node's position, and what its word says of the nodes before it: their word is their oldest action times younger, plus rest, and
-// the action is the one by which they lead there. Where no word is pending there is none, and that is the oldest one itself.
+// the action is the one by which they lead there. Where no word is pending there is none, and that is the oldest one itself. The solver
+// has a Spot of its own: what it does with one is promised and proved; here nothing is, and numbers of two bytes keep each product small.
 #[derive(Clone, Copy)]
 pub struct Spot {
     pub at: u8,
@@ -137,7 +139,7 @@ impl Pruning<'_, '_> {
         }
     }
 
-    // All nodes before those in the queue, and before those that join it meanwhile.
+    // All nodes before those in the queue, and before those that join it meanwhile: a `while`, since the queue grows.
     pub(crate) fn drain(&mut self)
         requires { Ready self.old }
         ensures { Goes self.old self.new }
