@@ -29,7 +29,7 @@ pub fn byte(s: &[u8], i: usize) -> u8
     s.get(i).copied().unwrap_or(0)
 }
 
-// The two-byte number at a place, low byte first.
+// The two-byte number at a place, low byte first. Past the end both bytes read as 0, and no sum wraps.
 #[tactic(auto, unfolding(theory::specs::Bytes::number_at))]
 pub fn two_bytes(s: &[u8], at: usize) -> usize
     ensures { (result ≡ number_at width s.now at) × (result < 65536) }

@@ -1,10 +1,10 @@
-// The grid of targets that the C body means: a row for each position, a target for each action, ABSENT where there is none.
+// The grid of targets that the C body means, with a mark where there is none, as document 01 has it.
 ghost use Rattle.std.specs.Prelude.{◌≡◌};
 ghost use Rattle.sheet.specs.code.Arrays.{grid_of, unmark, target_at};
 
 use crate::limits::{ABSENT, ROW, ROWS};
 
-// The grid of targets: a row for each position, a target for each action.
+// A row for each position, a target for each action, ABSENT where there is none.
 pub type Grid = [[u16; ROW]; ROWS];
 
 // A line with an action that no row has is left out, so the function is total.
@@ -22,7 +22,7 @@ pub fn grid_of(c: &[u8]) -> Grid
     grid
 }
 
-// The target of action x at position q, as the grid marks it; there is none outside the grid.
+// The target of action x at position q, as the grid marks it; there is none outside the grid. Not an Option: document 01 has the mark.
 #[tactic(auto, unfolding(crate::specs::code::Arrays::target_at, crate::specs::code::Arrays::unmark, theory::specs::Fold::both))]
 pub fn target(grid: &Grid, q: usize, x: usize) -> u16
     ensures { unmark result ≡ target_at grid.now q x }

@@ -26,7 +26,8 @@ fn skip_below(u: &[u8], from: usize, q: usize) -> usize
     n
 }
 
-// For each position its first line, or where it would stand; one entry more, for the end of the last.
+// For each position its first line, or where it would stand; one entry more, for the end of the last. Nothing is searched for: one pass
+// over the lines serves every position.
 pub fn first_lines(u: &[u8]) -> [u16; INDEX]
     ensures { result ≡ firsts_of u.now }
 {
