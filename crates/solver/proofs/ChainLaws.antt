@@ -56,6 +56,14 @@ module _ (links : List ℕ) (down : (i : ℕ) → get_or links i 0 ≤ i) where
   unfolding chain chain_of
   chain_next i = ap (λ (c : List ℕ). i ∷ c) (fuel_same i (get_or links i 0) (get_or links i 0) (down i) (omega arith))
 
+pub chain_end : (links : List ℕ) → chain links 0 ≡ []
+unfolding chain chain_of
+chain_end links = refl
+
+pub chain_done : (links : List ℕ) (e : ℕ) → (1 ≤ e → ⊥) → chain links e ≡ []
+chain_done links zero h = chain_end links
+chain_done links (suc i) h = absurd (h (omega arith))
+
 -- arrays of zeros link nothing
 pub zeros : (n k : ℕ) → get_or (replicate {A = ℕ} n 0) k 0 ≡ 0
 zeros zero k = refl
@@ -63,13 +71,10 @@ zeros (suc n) zero = refl
 zeros (suc n) (suc k) = zeros n k
 
 -- a chain that is not at its end
-pub chain_step : (links : List ℕ) (e : ℕ) → ((i : ℕ) → get_or links i 0 ≤ i) → (e ≡ 0 → ⊥) → chain links e ≡ (e - 1) ∷ chain links (get_or links (e - 1) 0)
-chain_step links zero d z = absurd (z refl)
-chain_step links (suc i) d z = let q : suc i - 1 ≡ i = omega arith in rw q (chain_next links d i)
-
-pub chain_end : (links : List ℕ) → chain links 0 ≡ []
-unfolding chain chain_of
-chain_end links = refl
+pub chain_step : (links : List ℕ) (e : ℕ) {i l : ℕ} → ((k : ℕ) → get_or links k 0 ≤ k) → 1 ≤ e → i ≡ e - 1 → l ≡ get_or links i 0
+    → chain links e ≡ i ∷ chain links l
+chain_step links zero d h p q = absurd (omega arith)
+chain_step links (suc j) {i} {l} d h p q = let r : i ≡ j = omega arith in rw (q, r) (chain_next links d j)
 
 pub head_in : (heads : List ℕ) (x : ℕ) → x < index_entries → head_of heads x ≡ get_or heads x 0
 unfolding head_of

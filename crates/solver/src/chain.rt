@@ -1,5 +1,5 @@
 // The chains of places 0, 1, .. by their keys: a chain leads from the last place that has its key to the one before. A link is a
-// place + 1, and 0 is the end.
+// place + 1, and 0 is the end: an Option would take twice the stack.
 ghost use Rattle.std.specs.Prelude.{◌≡◌, ℕ, ◌+◌, ◌<◌, ◌≤◌, IfSome, length, get_or, set};
 ghost use Rattle.std.specs.Iterator.{YieldsFirst, at_most};
 ghost use Rattle.solver.specs.code.Sizes.{largest16};
@@ -61,11 +61,7 @@ impl<const N: usize> Chain<N> {
     pub(crate) fn places(&self, x: usize) -> Places<'_, N>
         ensures { (result.links.now ≡ self.now.links) × (result.at ≡ head_of self.now.heads x) }
     {
-        let at = if x < INDEX {
-            usize::from(self.heads[x])
-        } else {
-            0
-        };
+        let at = self.heads.get(x).map_or(0, |e| usize::from(*e));
         Places {
             links: &self.links,
             at,
@@ -91,10 +87,7 @@ impl<const N: usize> Iterator for Places<'_, N> {
     ghost remaining = { λ s. at_most s.at };
 
     fn next(&mut self) -> Option<usize> {
-        if self.at == 0 {
-            return None;
-        }
-        let i = self.at - 1;
+        let i = self.at.checked_sub(1)?;
         self.at = usize::from(self.links[i]);
         Some(i)
     }

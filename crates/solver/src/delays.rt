@@ -10,7 +10,7 @@ use region::words::Kept;
 use walk::arena::Arena;
 use walk::level::level_at;
 
-// Where the search stopped: whether the asked delay wins, the delay whose ranks stand, and the number of its rounds.
+// Where the search stopped: whether the asked delay wins, the delay whose ranks stand in either case, and the number of its rounds.
 #[derive(Clone, Copy)]
 pub(crate) struct Stop {
     pub(crate) wins: bool,

@@ -38,20 +38,16 @@ impl Worklist<'_> {
         let falls = row_falls(p, level.odd, q);
         let mask = row_mask(p, level.odd, full, q);
         let start = q * level.words;
-        // read once: the loop stores nodes at full speed only where it need not look at the list itself
-        let (ranks, masks, queue) = (&mut *self.ranks, &mut *self.masks, &mut *self.queue);
-        let mut tail = self.tail;
         for k in start..start + level.words {
-            masks[k] = mask;
+            self.masks[k] = mask;
             if falls {
-                ranks[k] = 1;
-                queue[tail] = k as u16;
-                tail += 1;
+                self.ranks[k] = 1;
+                self.queue[self.tail] = k as u16;
+                self.tail += 1;
             } else {
-                ranks[k] = 0;
+                self.ranks[k] = 0;
             }
         }
-        self.tail = tail;
     }
 
     // All nodes.
