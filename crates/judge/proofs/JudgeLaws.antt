@@ -215,13 +215,13 @@ module _ (s t : List ℕ) (rd : Result Layout Refusal) (e : answer_of rd ≡ rea
       agree_is : layouts_agree l x ≡ sheets_agree s (table_at t x)
       agree_is = agree_layouts s t l x reads
 
-      pub mismatch : not r ≡ true → refused 21 ≡ judge_answer s t
+      pub mismatch : r ≡ false → refused 21 ≡ judge_answer s t
       unfolding judge_answer on_accepted
-      mismatch f = rw (reads, readable) (sym (check_failed _ 21 _ (sym agree_is ∙ failed er f)))
+      mismatch f = rw (reads, readable) (sym (check_failed _ 21 _ (sym agree_is ∙ sym er ∙ f)))
 
-      module _ (f : not r ≡ false) (flags masks : List ℕ) (ef : flags ≡ part_at t x.flags) (em : masks ≡ part_at t x.masks) where
+      module _ (f : r ≡ true) (flags masks : List ℕ) (ef : flags ≡ part_at t x.flags) (em : masks ≡ part_at t x.masks) where
         agreed : sheets_agree s (table_at t x) ≡ true
-        agreed = sym agree_is ∙ passed er f
+        agreed = sym agree_is ∙ sym er ∙ f
 
         pub judgeable : Judgeable s l flags masks
         judgeable =
@@ -235,4 +235,4 @@ module _ (s t : List ℕ) (rd : Result Layout Refusal) (e : answer_of rd ≡ rea
         pub judged : (z : Ruling) → z ≡ ruling (game_of s) (delay_of s) (table_with flags masks) → accepted z ≡ judge_answer s t
         judged z q = ap accepted (q ∙ rw (ef, em) refl) ∙ sym (ruling_is s t l (table_at t x) reads readable agreed)
 
-pub ruleset judgings = (rules, game_refused, table_refused, mismatch, judgeable, judged)
+pub ruleset judgings = (rules, game_refused, mismatch)
