@@ -65,10 +65,10 @@ module _ (p : ℕ → Bool) (n : ℕ) where
   same_index : (k : ℕ) → k < length (range_with_len 0 n) → p (get_or (range_with_len 0 n) k 0) ≡ p k
   same_index k l = ap p (in_range n k (rw (length-range_with_len 0 n) at l))
 
-  all_range : list_all p (range_with_len 0 n) ≡ all_below p n
+  pub all_range : list_all p (range_with_len 0 n) ≡ all_below p n
   all_range = all_elements p 0 p (range_with_len 0 n) same_index ∙ ap (all_below p) (length-range_with_len 0 n)
 
-  any_range : list_any p (range_with_len 0 n) ≡ any_below p n
+  pub any_range : list_any p (range_with_len 0 n) ≡ any_below p n
   any_range = any_elements p 0 p (range_with_len 0 n) same_index ∙ ap (any_below p) (length-range_with_len 0 n)
 
 -- what `all` and `any` answer: by their clause `ran`, where the chain begins, and what each call of the closure answers
@@ -107,23 +107,30 @@ module _ {A F : Type 0} {g : Mut F (Bor A × Unit {0}) Bool} {s u : Iter A} {f :
   any_slice ran said =
       any_from_yields_List test u f r ran (YieldsList-from_slice xs begins) said ∙ any_elements test d p xs same
 
--- what `array::from_fn` makes, by what each call of the closure answers
+-- what `array::from_fn` makes
 
-module _ {F B : Type 0} {g : Mut F (ℕ × Unit {0}) B} {f : F} (ys : List B) (h : ℕ → B)
-    (said : (i : ℕ) (y : B) (q : F) → Called g f (i, tt) y q → (q ≡ f) × (y ≡ h i)) where
-  entries_from : (i m : ℕ) (p : F) → p ≡ f → IsFromFnResultFrom g p ys i m → (k : ℕ) (d : B) → k < m → get_or ys (i + k) d ≡ h (i + k)
-  entries_from i zero p e r k d l = absurd (omega arith)
-  entries_from i (suc m) p e r zero d l =
-      let here : i ≡ i + 0 = omega arith in
-      rw (← here) (r.2.1 d ∙ (said i r.1 r.0 (subst (λ (x : F). Called g x (i, tt) r.1 r.0) e r.3)).1)
-  entries_from i (suc m) p e r (suc k) d l =
-      let next : i + 1 + k ≡ i + suc k = omega arith in
-      rw (← next) (entries_from (i + 1) m r.0 (said i r.1 r.0 (subst (λ (x : F). Called g x (i, tt) r.1 r.0) e r.3)).0 r.4 k d (omega arith))
+module _ {F B : Type 0} (g : Mut F (ℕ × Unit {0}) B) (h : ℕ → B) (f : F) (ys : List B) (d : B) where
+  -- a call at an index below n gives h of it, and leaves the closure
+  abbrev Gives : ℕ → Type 0
+  Gives n = (i : ℕ) (y : B) (q : F) → i < n → Called g f (i, tt) y q → (q ≡ f) × (y ≡ h i)
 
-  pub from_fn_makes : (n : ℕ) → IsFromFnResult g f ys n → ys ≡ tabulate h 0 n
-  from_fn_makes n r =
-      ext_get_or (h 0) _ _ (r.long ∙ sym (length_tabulate h 0 n))
+  made_from : (i n : ℕ) → Gives (i + n) → (p : F) → p ≡ f → IsFromFnResultFrom g p ys i n → (k : ℕ) → k < n → get_or ys (i + k) d ≡ h (i + k)
+  made_from i zero gives p e m k l = absurd (omega arith)
+  made_from i (suc n) gives p e (q, y, is, called, rest) zero l =
+      let r = gives i y q (omega arith) (subst (λ p. Called g p (i, tt) y q) e called) in
+      let z : i + 0 ≡ i = omega arith in
+      rw z (is.1 d ∙ r.1)
+  made_from i (suc n) gives p e (q, y, is, called, rest) (suc k) l =
+      let r = gives i y q (omega arith) (subst (λ p. Called g p (i, tt) y q) e called) in
+      let z : i + suc k ≡ i + 1 + k = omega arith in
+      rw z (made_from (i + 1) n (λ j y q m. gives j y q (omega arith)) q r.0 rest k (omega arith))
+
+  -- an array of n entries that calls of f gave
+  pub made_is : (n : ℕ) → Gives n → IsFromFnResult g f ys n → ys ≡ tabulate h 0 n
+  made_is n gives made =
+      ext_get_or d ys (tabulate h 0 n) (made.long ∙ sym (length_tabulate h 0 n))
       (λ k l.
-      let m : k < n = rw r.long at l in
+      let m : k < n = omega (arith, made.long) in
       let z : 0 + k ≡ k = omega arith in
-      rw z at (entries_from 0 n f refl r.each k (h 0) m) ∙ sym (get_d_tabulate h n k (h 0) m))
+      let r = made_from 0 n (λ i y q o. gives i y q (omega arith)) f refl made.each k m in
+      (rw z at r) ∙ sym (get_d_tabulate h n k d m))

@@ -1,6 +1,6 @@
 -- `held_row` meets its contract. Assumes nothing.
 use Rattle.std.proofs.Common.{rules, tests}
-use Rattle.sheet.proofs.ChainLaws.{from_fn_makes}
+use Rattle.sheet.proofs.ChainLaws.{made_is}
 use Rattle.gates.specs.code.Held.{cell_held, row_held}
 use Rattle.gates.proofs.HoldLaws.{row_still}
 use Rattle.gates.proofs.hold.held_row.Goals as goal
@@ -10,4 +10,4 @@ returns-then-row-eq-ABSENT c = row_still c.args.actions c.args.row.now c.told-ro
 
 pub returns-else-row-eq-ABSENT : goal.returns-else-row-eq-ABSENT
 unfolding row_held
-returns-else-row-eq-ABSENT c = from_fn_makes _ (cell_held c.args.actions c.args.row.now) (λ i y q k. search (rules, tests)) 8 c.from_fn.ensures.items
+returns-else-row-eq-ABSENT c = made_is _ (cell_held c.args.actions c.args.row.now) _ _ 0 8 (λ i y q l k. search (rules, tests)) c.from_fn.ensures.items
