@@ -1,5 +1,4 @@
 -- Laws of specs/, on which the proofs of the functions rest, and that a state's bytes give it back.
-pub mod Arrays
 pub mod ByteLaws
 pub mod RoundTrip
 pub mod Repeat

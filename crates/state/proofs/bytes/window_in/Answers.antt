@@ -2,7 +2,7 @@
 use Rattle.std.proofs.Common.{rules}
 use Rattle.state.specs.State.{slots, unknown}
 use Rattle.state.specs.StateBytes.{slot_in, window_in}
-use Rattle.state.proofs.Arrays.{made_is}
+use Rattle.sheet.proofs.ChainLaws.{made_is}
 use Rattle.state.proofs.bytes.window_in.Goals as goal
 
 pub returns : goal.returns

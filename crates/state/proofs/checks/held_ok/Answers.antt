@@ -3,7 +3,7 @@ use Rattle.std.proofs.Common.{rules, arith, ◌∙◌, refl}
 use Rattle.std.proofs.lemmas.Iterator.{YieldsList-from_range}
 use Rattle.std.proofs.lemmas.Iterator.Search.{all_from_yields_List}
 use Rattle.state.specs.State.{held_at}
-use Rattle.state.proofs.Arrays.{all_range}
+use Rattle.sheet.proofs.ChainLaws.{all_range}
 use Rattle.state.proofs.checks.held_ok.Goals as goal
 
 pub returns : goal.returns

@@ -1,7 +1,7 @@
 -- `shifted` meets its contract: its array is made slot by slot. Assumes nothing.
 use Rattle.std.proofs.Common.{rules}
 use Rattle.state.specs.State.{slots, unknown, shifted_at, shifted}
-use Rattle.state.proofs.Arrays.{made_is}
+use Rattle.sheet.proofs.ChainLaws.{made_is}
 use Rattle.state.proofs.state.shifted.Goals as goal
 
 pub returns : goal.returns

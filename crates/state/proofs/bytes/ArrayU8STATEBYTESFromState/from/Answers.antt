@@ -1,7 +1,7 @@
 -- A state's bytes are made one by one. Assumes nothing.
 use Rattle.std.proofs.Common.{rules, get_or, ◌∙◌}
 use Rattle.state.specs.StateBytes.{state_bytes, encode_state}
-use Rattle.state.proofs.Arrays.{made_is}
+use Rattle.sheet.proofs.ChainLaws.{made_is}
 use Rattle.state.proofs.ByteLaws.{encoded_whole}
 use Rattle.state.proofs.bytes.ArrayU8STATEBYTESFromState.from.Goals as goal
 
