@@ -1,6 +1,6 @@
 -- The search of src/reach.rt: what joins the queue, and that in the end it has the positions on plays. Assumes nothing.
 use Prim.Native.Nat.{ℕ, suc, ◌+◌, ◌-◌, ◌*◌, ◌≤◌, ◌<◌}
-use mathlib.Core.Path.{◌≡◌, refl, sym, ◌∙◌, ap}
+use mathlib.Core.Path.{◌≡◌, refl, sym, ◌∙◌, ap, subst, fun_ext}
 use mathlib.Core.Bool.{Bool, true, false}
 use mathlib.Core.Logic.{◌⊎◌, ⊎_elim}
 use mathlib.Core.List.{List}
@@ -12,7 +12,7 @@ use lib.Seq.{get_or-set_same, get_or-set_other, ext_get_or}
 use borrow.Author.Rules.{rules}
 use borrow.Author.Tests.{eqb-true, eq-eqb, ne_eqb}
 use Rattle.theory.specs.Fold.{either, any_below, any_of, tabulate, count}
-use Rattle.theory.specs.Game.{Game, Legal}
+use Rattle.theory.specs.Game.{absent, to, Game, Legal}
 use Rattle.theory.specs.Play.{origin, last_from, begun}
 use Rattle.theory.specs.Reach.{OnPlay, is_target, leads, reached}
 use Rattle.theory.proofs.Fold.{bool, not_both, same_test, same?, below?, either_left, either_right, either_cases, either_first, either_assoc, any_none, any_suc}
@@ -24,10 +24,9 @@ use Rattle.sheet.specs.Bodies.{header_body, targets_body, moves_body, is_holding
 use Rattle.gates.specs.code.Held.{held_grid}
 use Rattle.sheet.specs.SheetGame.{game_of}
 use Rattle.reader.specs.code.Steps.{Checked}
-use Rattle.sheet.specs.code.Arrays.{absent_mark, unmark, target_at, firsts_of, to_at, tos_between, view_of, bodies_game}
+use Rattle.sheet.specs.code.Arrays.{target_at, firsts_of, to_at, tos_between, view_of, bodies_game}
 use Rattle.reader.specs.code.Reaching.{queue_of, marked, Queued, marks_with, Grown, is_position, by_action_in, by_line, by_move_in}
 use Rattle.reader.specs.declared.reach.Queue.{Queue}
-use Rattle.sheet.proofs.GridLaws.{unmark_absent, unmark_to}
 use Rattle.reader.proofs.Accepted.{ranges}
 use Rattle.reader.proofs.Legality.{legal}
 use Rattle.reader.proofs.Bodies.{bodies_game_lem}
@@ -179,30 +178,35 @@ pub ruleset joining = (rules, join_none, join_marked)
 
 -- the targets of a position, action by action
 
-target_test : (r k : ℕ) → r < most_positions → is_target r (unmark k) ≡ eqb r k
-unfolding is_target
-target_test r k h =
-    ⊎_elim
-    (λ (e : k ≡ absent_mark). rw (unmark_absent e) (sym (ne_eqb r k (λ s. omega arith))))
-    (λ (d : k ≡ absent_mark → ⊥). rw (unmark_to d))
-    (same? k absent_mark)
-
 module _ (g : List (List ℕ)) (q : ℕ) where
   pub targets_start : (w : Queue) → Queued w → Grown (by_action_in g q 0) w w
   unfolding by_action_in
   targets_start w h = grown_same (by_action_in g q 0) w h (λ r l e. absurd (not_both e (any_none _)))
 
-  pub targets_more : (x : ℕ) {k t : ℕ} {u v w : Queue} → unmark k ≡ target_at g q x → t ≡ k → Grown (by_action_in g q x) u v → Grown (is_position t) v w
+  pub targets_more : (x : ℕ) {k t : ℕ} {u v w : Queue} → to k ≡ target_at g q x → t ≡ k → Grown (by_action_in g q x) u v → Grown (is_position t) v w
       → Grown (by_action_in g q (x + 1)) u w
-  unfolding by_action_in is_position
+  unfolding by_action_in is_position is_target
   targets_more x {k} e f a b =
       grown_join _ _ _ _ _ _ a b
-      (λ r l. rw (add-one x, f, sym (target_test r k l), e) (any_suc (λ c. is_target r (target_at g q c)) x))
+      (λ r l.
+      let z : is_target r (to k) ≡ is_target r (target_at g q x) = ap (is_target r) e in
+      rw (add-one x, f) (any_suc (λ c. is_target r (target_at g q c)) x ∙ ap (either (any_below (λ c. is_target r (target_at g q c)) x)) (sym z)))
+
+  pub targets_none : (x : ℕ) {u v : Queue} → absent ≡ target_at g q x → Grown (by_action_in g q x) u v → Grown (by_action_in g q (x + 1)) u v
+  unfolding by_action_in is_target
+  targets_none x {u} {v} e a = subst (λ f. Grown f u v) (fun_ext (λ r. rw (add-one x) (tests r))) a
+    where
+      tests : (r : ℕ) → any_below (λ c. is_target r (target_at g q c)) x ≡ any_below (λ c. is_target r (target_at g q c)) (suc x)
+      tests r =
+          sym
+          (any_suc (λ c. is_target r (target_at g q c)) x
+          ∙ ap (either (any_below (λ c. is_target r (target_at g q c)) x)) (ap (is_target r) (sym e))
+          ∙ either_first _ _ refl)
 
   pub targets_done : {x a : ℕ} {u v : Queue} → x ≤ a → a ≤ x → Grown (by_action_in g q x) u v → Grown (by_action_in g q a) u v
   targets_done {x} {a} h k b = let e : x ≡ a = omega arith in rw e at b
 
-pub ruleset targeting = (rules, targets_start, targets_more, targets_done)
+pub ruleset targeting = (rules, targets_start, targets_more, targets_none, targets_done)
 
 -- the moves on some lines, line by line
 

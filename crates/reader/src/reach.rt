@@ -40,7 +40,9 @@ impl Queue {
         ensures { Grown (by_action_in grid.now q actions) self.old self.new }
     {
         for x in 0..actions {
-            self.join(usize::from(target(grid, q, x)));
+            if let Some(t) = target(grid, q, x) {
+                self.join(usize::from(t));
+            }
         }
     }
 

@@ -11,7 +11,7 @@ use reader::reading::read;
 use sheet::form::part;
 use sheet::grid::target;
 use sheet::kinds::{on_right, safe_at};
-use sheet::limits::{ABSENT, MOST_POSITIONS, ROW, ROWS};
+use sheet::limits::{MOST_POSITIONS, ROW, ROWS};
 use walk::level::{Level, level_at};
 
 // The nodes that these ranks keep at one delay: those of the right side without a rank. First words don't ask about the environment's
@@ -46,7 +46,7 @@ impl Kept<'_> {
         self.level.words
     }
 
-    #[tactic(auto, unfolding(crate::specs::code::Kept::good_in, theory::specs::Delay::good_by, theory::specs::Delay::kept_at, theory::specs::Fold::both, sheet::specs::code::Arrays::unmark, sheet::specs::code::Arrays::view_of), using(crate::proofs::GoodLaws::fitting))]
+    #[tactic(auto, unfolding(crate::specs::code::Kept::good_in, theory::specs::Delay::good_by, theory::specs::Delay::kept_at, theory::specs::Fold::both, sheet::specs::code::Arrays::view_of), using(crate::proofs::GoodLaws::fitting))]
     fn good(&self, v: usize) -> bool
         requires { (IsSized self.now) × (self.now.level.start < most_positions) × (v < first_words self.now.level) }
         ensures { result ≡ good self.now v }
@@ -57,11 +57,10 @@ impl Kept<'_> {
         if !safe_at(self.positions, self.level.start) {
             return false;
         }
-        let mark = target(self.grid, self.level.start, v / self.level.words);
-        if mark == ABSENT {
+        let Some(to) = target(self.grid, self.level.start, v / self.level.words) else {
             return false;
-        }
-        self.has(usize::from(mark) * self.level.words + v % self.level.words)
+        };
+        self.has(usize::from(to) * self.level.words + v % self.level.words)
     }
 
     #[tactic(auto, using(crate::proofs::GoodLaws::searching))]

@@ -17,7 +17,6 @@ use Rattle.sheet.proofs.ChunkLaws.{chunk_entry}
 use Rattle.sheet.specs.SheetGame.{is_line, target_in}
 use Rattle.sheet.specs.code.Arrays.{mark_of, row_of, grid_after, grid_of, absent_mark, unmark, target_at}
 use Rattle.sheet.specs.Limits.{most_positions, most_actions}
-use borrow.Author.Rules.{rules}
 use lib.Dec.{ltb}
 
 module _ (c : List ℕ) (n : ℕ) where

@@ -1,6 +1,6 @@
 // The grid of targets that the C body means, with a mark where there is none, as document 01 has it.
 ghost use Rattle.std.specs.Prelude.{◌≡◌};
-ghost use Rattle.sheet.specs.code.Arrays.{grid_of, unmark, target_at};
+ghost use Rattle.sheet.specs.code.Arrays.{grid_of, target_from, target_at};
 
 use crate::limits::{ABSENT, ROW, ROWS};
 
@@ -22,13 +22,17 @@ pub fn grid_of(c: &[u8]) -> Grid
     grid
 }
 
-// The target of action x at position q, as the grid marks it; there is none outside the grid. Not an Option: document 01 has the mark.
+// The target of action x at position q; there is none where the grid marks it as absent, nor outside the grid.
 #[tactic(auto, unfolding(crate::specs::code::Arrays::target_at, crate::specs::code::Arrays::unmark, theory::specs::Fold::both))]
-pub fn target(grid: &Grid, q: usize, x: usize) -> u16
-    ensures { unmark result ≡ target_at grid.now q x }
+pub fn target(grid: &Grid, q: usize, x: usize) -> Option<u16>
+    ensures { target_from result ≡ target_at grid.now q x }
 {
     if ROWS <= q || ROW <= x {
-        return ABSENT;
+        return None;
     }
-    grid[q][x]
+    let mark = grid[q][x];
+    if mark == ABSENT {
+        return None;
+    }
+    Some(mark)
 }

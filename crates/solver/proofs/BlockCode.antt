@@ -11,13 +11,12 @@ use lib.ListN.{length, get_or}
 use borrow.Author.Rules.{rules}
 use borrow.Author.Tests.{not-true, not-false, ltb-true, leb-true}
 use Rattle.theory.specs.Fold.{any_of}
-use Rattle.theory.specs.Game.{Game}
+use Rattle.theory.specs.Game.{absent, to, Game}
 use Rattle.theory.specs.Rounds.{Arena, bad, spoilt_by}
 use Rattle.theory.specs.Delay.{on_right, step}
 use Rattle.theory.proofs.Fold.{not_both, same_test, both_none, both_false, both_second, both_left, both_right}
 use Rattle.sheet.specs.Kinds.{controller_at, safe_at}
-use Rattle.sheet.specs.code.Arrays.{view_of, target_at, unmark, absent_mark}
-use Rattle.sheet.proofs.GridLaws.{unmark_absent, unmark_to}
+use Rattle.sheet.specs.code.Arrays.{view_of, target_at}
 use Rattle.walk.specs.declared.level.Level.{Level}
 use Rattle.walk.specs.code.Levels.{arena_of}
 use Rattle.walk.specs.code.Nodes.{Sized}
@@ -117,15 +116,15 @@ module _ (p : List ℕ) (g : List (List ℕ)) (u f : List ℕ) (l : Level) (youn
           ∙ even_outcomes G false l.words younger fits.some_action fits.some_younger whole (b / l.actions) (b % l.actions))
           ∙ played_none G l.words (0 * l.actions + 0) (target_at g (b / l.actions) (b % l.actions)))
 
-      module _ (o : l.odd ≡ false) {t : ℕ} (et : unmark t ≡ target_at g (b / l.actions) (b % l.actions)) where
-        pub blocked_absent : t ≡ absent_mark → true ≡ blocked_at (arena_of p g u f l) (b * younger)
-        unfolding no_way
-        blocked_absent z = blocked_by (sym (even_is o ∙ ap (no_way (safe_at p)) (sym et ∙ unmark_absent z)))
+      pub blocked_absent : l.odd ≡ false → absent ≡ target_at g (b / l.actions) (b % l.actions)
+          → true ≡ blocked_at (arena_of p g u f l) (b * younger)
+      unfolding no_way
+      blocked_absent o e = blocked_by (sym (even_is o ∙ ap (no_way (safe_at p)) (sym e)))
 
-        pub blocked_even : {v : ℕ} {x : Bool} → (t ≡ absent_mark → ⊥) → v ≡ t → x ≡ safe_at p v → not x ≡ blocked_at (arena_of p g u f l) (b * younger)
-        unfolding no_way
-        blocked_even z d e =
-            blocked_by (ap not (e ∙ ap (safe_at p) d) ∙ sym (even_is o ∙ ap (no_way (safe_at p)) (sym et ∙ unmark_to z)))
+      pub blocked_even : l.odd ≡ false → {t v : ℕ} {x : Bool} → to t ≡ target_at g (b / l.actions) (b % l.actions)
+          → v ≡ t → x ≡ safe_at p v → not x ≡ blocked_at (arena_of p g u f l) (b * younger)
+      unfolding no_way
+      blocked_even o et d e = blocked_by (ap not (e ∙ ap (safe_at p) d) ∙ sym (even_is o ∙ ap (no_way (safe_at p)) (sym et)))
 
 pub ruleset blocking = (rules, row_fits, blocked_wrong, blocked_unsafe, blocked_odd, blocked_absent, blocked_even)
 

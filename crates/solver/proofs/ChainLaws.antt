@@ -1,5 +1,5 @@
 -- Chains visit exactly the places of their key. Assumes nothing.
-use Prim.Native.Nat.{ℕ, zero, suc, ◌+◌, ◌-◌, ◌/◌, ◌%◌, ◌≤◌, ◌<◌}
+use Prim.Native.Nat.{ℕ, zero, suc, ◌+◌, ◌-◌, ◌≤◌, ◌<◌}
 use mathlib.Core.Path.{◌≡◌, refl, sym, ◌∙◌, ap}
 use mathlib.Core.Bool.{true, false}
 use mathlib.Core.Logic.{⊎_elim}
@@ -11,10 +11,9 @@ use lib.ListN.{length, replicate, get_or, set, length-set, get_or-eq_default}
 use lib.Seq.{get_or-set_same, get_or-set_other}
 use borrow.Author.Tests.{eq-eqb, ne_eqb, lt-ltb, le-ltb}
 use Rattle.theory.proofs.Fold.{bool, same?, below?}
-use Rattle.solver.specs.code.Chains.{last_of, chain_of, chain, head_of, Linked, cell_key}
+use Rattle.solver.specs.code.Chains.{last_of, chain_of, chain, head_of, Linked}
 use Rattle.theory.specs.Game.{absent, to}
-use Rattle.sheet.specs.code.Arrays.{index_entries, absent_mark, mark_of, unmark, target_at}
-use Rattle.sheet.proofs.GridLaws.{unmark_absent, unmark_to}
+use Rattle.sheet.specs.code.Arrays.{index_entries, absent_mark, mark_of}
 
 module _ (key : ℕ → ℕ) (x : ℕ) where
   pub last_here : (n : ℕ) → key n ≡ x → last_of key x (suc n) ≡ suc n
@@ -194,17 +193,6 @@ marked_absent = refl
 pub marked_to : (t : ℕ) → mark_of (to t) ≡ t
 unfolding mark_of
 marked_to t = refl
-
-pub cell_mark : (g : List (List ℕ)) (i : ℕ) {t x : ℕ} → unmark t ≡ target_at g (i / 8) (i % 8) → x ≡ t → x ≡ cell_key g i
-unfolding cell_key
-cell_mark g i {t} e f = f ∙ sym (mark_unmark t) ∙ ap mark_of e
-  where
-    mark_unmark : (t : ℕ) → mark_of (unmark t) ≡ t
-    mark_unmark t =
-        ⊎_elim
-        (λ (q : t ≡ absent_mark). rw (unmark_absent q) (marked_absent ∙ sym q))
-        (λ q. rw (unmark_to q) (marked_to t))
-        (same? t absent_mark)
 
 pub linked_pushed : (key : ℕ → ℕ) (n : ℕ) (heads links : List ℕ) {h l : List ℕ} {x : ℕ} → Linked key n heads links → n < length links → x ≡ key n
     → h ≡ set heads x (n + 1) → l ≡ set links n (get_or heads x 0) → Linked key (n + 1) h l

@@ -11,7 +11,6 @@ ghost use Rattle.solver.specs.code.Block.{blocked_at, block_to, blocks_to};
 use crate::mark::Worklist;
 use sheet::grid::target;
 use sheet::kinds::{on_right, safe_at};
-use sheet::limits::ABSENT;
 use walk::arena::{Arena, Fallen};
 
 // Is row b of the nodes blocked: has its position and oldest action an absent outcome, at a safe position of the right side?
@@ -35,11 +34,10 @@ fn blocked(arena: &Arena, younger: usize, b: usize) -> bool
         };
         return arena.spoilt(&nothing, b * younger, 0);
     }
-    let t = target(arena.grid, q, b % level.actions);
-    if t == ABSENT {
+    let Some(to) = target(arena.grid, q, b % level.actions) else {
         return true;
-    }
-    !safe_at(arena.positions, usize::from(t))
+    };
+    !safe_at(arena.positions, usize::from(to))
 }
 
 impl Worklist<'_> {

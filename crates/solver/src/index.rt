@@ -1,12 +1,12 @@
 // The reverse of a game: the lines of its U body by the position reached, and the cells of its grid by their target.
-ghost use Rattle.std.specs.Prelude.{ℕ};
-ghost use Rattle.solver.specs.code.Chains.{Linked};
+ghost use Rattle.std.specs.Prelude.{ℕ, ◌≡◌};
+ghost use Rattle.solver.specs.code.Chains.{Linked, cell_key};
 ghost use Rattle.solver.specs.code.Sweep.{index, Indexed};
 
 use crate::chain::Chain;
 use sheet::form::byte;
 use sheet::grid::{Grid, target};
-use sheet::limits::{MOST_MOVES, ROW, ROWS};
+use sheet::limits::{ABSENT, MOST_MOVES, ROW, ROWS};
 use sheet::moves::line_count;
 
 // The cells of the grid.
@@ -18,6 +18,17 @@ pub(crate) struct Index<'a> {
     pub(crate) moves: &'a [u8],
     pub(crate) reaching: &'a Chain<MOST_MOVES>,
     pub(crate) leading: &'a Chain<CELLS>,
+}
+
+// The key of a cell: its target. An absent one has its mark, which is the key of no position.
+#[tactic(auto, unfolding(crate::specs::code::Chains::cell_key, sheet::specs::code::Arrays::mark_of))]
+fn cell_key(grid: &Grid, x: usize) -> usize
+    ensures { result ≡ cell_key grid.now x }
+{
+    let Some(to) = target(grid, x / ROW, x % ROW) else {
+        return usize::from(ABSENT);
+    };
+    usize::from(to)
 }
 
 // Both chains, where some delay up to the asked one has pending words; no place is linked yet.
@@ -37,5 +48,5 @@ pub(crate) fn link_both(
         return;
     }
     reaching.link(line_count(u), |i| usize::from(byte(u, 2 * i + 1)));
-    leading.link(CELLS, |x| usize::from(target(grid, x / ROW, x % ROW)));
+    leading.link(CELLS, |x| cell_key(grid, x));
 }

@@ -12,7 +12,6 @@ use crate::arena::{Arena, Fallen};
 use sheet::form::byte;
 use sheet::grid::target;
 use sheet::kinds::safe_at;
-use sheet::limits::ABSENT;
 
 // What an action that is chosen at a node leads to: the oldest action is played and rest is pending after it; the environment's
 // moves are on the lines from first to end.
@@ -46,7 +45,7 @@ impl Arena<'_> {
     }
 
     // Action c joined to the pending word w, at position q; none where it is spoilt before the environment moves.
-    #[tactic(auto, unfolding(crate::specs::code::Walks::choice_at, crate::specs::code::Walks::played_at, crate::specs::code::Walks::moves_after, sheet::specs::code::Arrays::unmark), using(crate::proofs::WalkLaws::safe_small))]
+    #[tactic(auto, unfolding(crate::specs::code::Walks::choice_at, crate::specs::code::Walks::played_at, crate::specs::code::Walks::moves_after), using(crate::proofs::WalkLaws::safe_small))]
     fn choose(&self, q: usize, w: usize, c: usize) -> Option<Choice>
         requires { (IsSized self.now) × (q < most_positions) × (w < self.now.level.words) × (c < self.now.level.actions) }
         ensures choice { result ≡ choice_for self.now q w c }
@@ -58,11 +57,7 @@ impl Arena<'_> {
         if self.level.odd {
             return Some(self.moves_from(action, rest, q));
         }
-        let mark = target(self.grid, q, action);
-        if mark == ABSENT {
-            return None;
-        }
-        let reached = usize::from(mark);
+        let reached = usize::from(target(self.grid, q, action)?);
         if !safe_at(self.positions, reached) {
             return None;
         }
@@ -70,7 +65,7 @@ impl Arena<'_> {
     }
 
     // Does the environment's move on this line spoil the choice?
-    #[tactic(auto, unfolding(crate::specs::code::Walks::outcome_at, crate::specs::code::Walks::outcome_by, theory::specs::Delay::with_word, theory::specs::Rounds::bad, sheet::specs::code::Arrays::unmark, sheet::specs::code::Arrays::to_at))]
+    #[tactic(auto, unfolding(crate::specs::code::Walks::outcome_at, crate::specs::code::Walks::outcome_by, theory::specs::Delay::with_word, theory::specs::Rounds::bad, sheet::specs::code::Arrays::to_at))]
     fn spoils(&self, fallen: &Fallen, x: Choice, line: usize) -> bool
         requires { (self.now.level.words ≤ most_power) × (x.rest < self.now.level.words) × (line < most_power) }
         ensures { result ≡ bad (has_fallen fallen.now) (outcome_on self.now x line) }
@@ -82,11 +77,10 @@ impl Arena<'_> {
         if !safe_at(self.positions, to) {
             return true;
         }
-        let mark = target(self.grid, to, x.action);
-        if mark == ABSENT {
+        let Some(reached) = target(self.grid, to, x.action) else {
             return true;
-        }
-        fallen.has(usize::from(mark) * self.level.words + x.rest)
+        };
+        fallen.has(usize::from(reached) * self.level.words + x.rest)
     }
 
     // The last of a choice's lines that spoils it, looked for from the end: it is "nearly always a late line of its position's yard

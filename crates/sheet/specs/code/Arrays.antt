@@ -1,6 +1,6 @@
 -- The arrays that the C and U bodies fill, and the game that they hold: g is the grid of targets, f the index of first lines, p and
 -- u are the P and U bodies. Assumes nothing.
-use Rattle.std.specs.Prelude.{ℕ, suc, ◌+◌, ◌-◌, ◌*◌, ◌/◌, min, Bool, cond, List, [], eqb, ltb, length, get_or}
+use Rattle.std.specs.Prelude.{ℕ, suc, ◌+◌, ◌-◌, ◌*◌, ◌/◌, min, Bool, cond, List, [], Option, Some, None, eqb, ltb, length, get_or}
 use Rattle.theory.specs.Fold.{both, first_not, tabulate}
 use Rattle.theory.specs.Game.{Target, absent, to, Game}
 use Rattle.sheet.specs.Limits.{most_positions, most_actions, most_moves}
@@ -27,6 +27,11 @@ grid_of c = grid_after c (length c / 3)
 
 unfoldable pub unmark : ℕ → Target
 unmark t = cond (eqb t absent_mark) absent (to t)
+
+-- the same without a mark
+abbrev pub target_from : Option ℕ → Target
+target_from None = absent
+target_from (Some q) = to q
 
 -- what a grid says of position q and action x. Like the code it reads an entry past the end as 0, so it needs no row's length
 unfoldable pub target_at : List (List ℕ) → ℕ → ℕ → Target

@@ -2,7 +2,6 @@
 use Rattle.std.proofs.Common.{rules, refl}
 use Rattle.sheet.specs.code.Arrays.{to_at}
 use Rattle.solver.specs.code.Chains.{cell_key}
-use Rattle.solver.proofs.ChainLaws.{cell_mark}
 use Rattle.solver.proofs.SweepLaws.{index_none, index_both}
 use Rattle.solver.proofs.index.link_both.Goals as goal
 
@@ -13,4 +12,4 @@ pub returns : goal.returns
 unfolding to_at
 returns c =
     index_both _ _ _ _ refl (rw c.line_count.ensures at (c.link.ensures (to_at c.args.u.now) (λ i r h e. search rules)))
-    (c.link-2.ensures (cell_key c.args.grid.now) (λ i r h e. search (rules, cell_mark)))
+    (c.link-2.ensures (cell_key c.args.grid.now) (λ i r h e. search rules))
