@@ -20,14 +20,15 @@ use Rattle.sheet.specs.Limits.{most_actions, most_nodes}
 use Rattle.sheet.specs.code.Arrays.{view_of}
 use Rattle.walk.specs.declared.level.Level.{Level}
 use Rattle.walk.specs.code.Levels.{arena_of}
-use Rattle.walk.specs.code.Arenas.{arena_in, IsSized}
+use Rattle.walk.specs.code.Arenas.{arena_in}
 use Rattle.walk.specs.code.Nodes.{Sized, is_sized, is_fitted, is_node}
 use Rattle.walk.specs.code.Walks.{fallen_by}
 use Rattle.walk.proofs.NodeLaws.{node_tested, sized_level, fitted, level_unfit, buffer_unfit}
 use Rattle.rule.specs.code.Parts.{mark_for, mark_at, marks_after, part_of, part_in}
 use Rattle.rule.proofs.PartCode.{mark_fallen, after_marked, after_beyond, after_length}
 use Rattle.prune.specs.declared.cut.Pruning.{Pruning}
-use Rattle.prune.specs.code.Pruning.{fallen_in, Same, Ready, Left, CutOnce, part_now, cut_at, swept_to, changed_to, Goes, Swept, Pruned, is_prunable, total, SweptOn, PrunedBy, PrunedLeft}
+use Rattle.prune.specs.code.Pruning.{fallen_in, Shown, part_now, cut_at, swept_to, changed_to, Pruned, is_prunable, total, PrunedBy, PrunedLeft}
+use Rattle.prune.specs.code.Views.{Same, Left, CutOnce, Goes, Swept, SweptOn}
 use Rattle.prune.proofs.CutLaws.{part_lt, cut_none, cut_on, cut_cut, cut_gone, cut_whole, shown_store, swept_next, changed_next, swept_cut, quiet_pruned, cut_total, changed_less}
 
 -- the buffers
@@ -47,7 +48,7 @@ same_on a b =
 
 -- one node's mask
 
-module _ (w : Pruning) (ready : Ready w) where
+module _ (w : Pruning) where
   abbrev E : Arena
   E = arena_in w.arena.now
 
@@ -56,7 +57,7 @@ module _ (w : Pruning) (ready : Ready w) where
 
   pub nodes_are : l.nodes ≡ E.nodes
   unfolding arena_of view_of
-  nodes_are = ready.sized.all_nodes
+  nodes_are = w.sized.all_nodes
 
   module _ (k m r : ℕ) (h : k < l.nodes) (em : m ≡ get_or w.masks.now k 0)
       (er : r ≡ part_in w.arena.now.positions.now w.arena.now.grid.now w.arena.now.moves.now w.arena.now.firsts.now l w.marks.now k m) where
@@ -67,22 +68,21 @@ module _ (w : Pruning) (ready : Ready w) where
         either_way : (b : Bool) → cond b (part_of E (fallen_by 1 w.marks.now) k m) 0 < 256
         either_way true =
             let t = part_lt E (fallen_by 1 w.marks.now) k m in
-            let b : 2 ^ l.actions ≤ 2 ^ most_actions = pow_mono ready.sized.few_actions in
+            let b : 2 ^ l.actions ≤ 2 ^ most_actions = pow_mono w.sized.few_actions in
             omega arith
         either_way false = omega arith
 
     part_is : r ≡ part_now E w.masks.now k
     unfolding part_in part_now
     part_is =
-        let shown : fallen_by 1 w.marks.now ≡ fallen_in w.masks.now = fun_ext ready.shown.same in
-        er ∙ rw (node_tested (length w.arena.now.positions.now) l k ready.sized h, shown, em)
+        let shown : fallen_by 1 w.marks.now ≡ fallen_in w.masks.now = fun_ext w.shown.same in
+        er ∙ rw (node_tested (length w.arena.now.positions.now) l k w.sized h, shown, em)
 
     pub cut_same : r ≡ get_or w.masks.now k 0 → CutOnce w k w false
     cut_same e =
         record {
           left = cut_whole E w.masks.now k (sym part_is ∙ e);
           any = rw (eq-eqb (get_or w.masks.now k 0) _ refl);
-          ready = ready;
           same = same_none w;
         }
 
@@ -92,18 +92,8 @@ module _ (w : Pruning) (ready : Ready w) where
         record {
           left = left.masks ∙ ap (set w.masks.now k) part_is;
           any =
-              let here : get_or w'.masks.now k 0 ≡ r = rw left.masks (get_or-set_same w.masks.now k r 0 (omega (arith, ready.nodes))) in
+              let here : get_or w'.masks.now k 0 ≡ r = rw left.masks (get_or-set_same w.masks.now k r 0 (omega (arith, w.nodes))) in
               rw (here, ne_eqb r (get_or w.masks.now k 0) n);
-          ready = record {
-            sized = rw left.same.arena ready.sized;
-            some_action = rw left.same.arena ready.some_action;
-            nodes = rw (left.masks, left.same.arena) (length-set {A = ℕ} w.masks.now k r ∙ ready.nodes);
-            marks_room = rw (left.marks, left.same.arena, length-set {A = ℕ} w.marks.now k (mark_for r)) ready.marks_room;
-            shown =
-                rw (left.masks, left.marks)
-                (shown_store w.masks.now w.marks.now k r ready.shown (omega (arith, ready.nodes)) (omega (arith, ready.nodes, ready.marks_room)));
-            inside = left.inside;
-          };
           same = left.same;
         }
 
@@ -112,27 +102,39 @@ module _ (w : Pruning) (ready : Ready w) where
       record {
         left = cut_gone E w.masks.now k e;
         any = rw (eq-eqb (get_or w.masks.now k 0) _ refl);
-        ready = ready;
         same = same_none w;
       }
+
+  -- what is left keeps the ghost fields
+  module _ (k v m : ℕ) where
+    pub left_nodes : length (set w.masks.now k v) ≡ l.nodes
+    left_nodes = length-set {A = ℕ} w.masks.now k v ∙ w.nodes
+
+    pub left_room : l.nodes ≤ length (set w.marks.now k m)
+    left_room = rw (length-set {A = ℕ} w.marks.now k m) w.marks_room
+
+    pub left_shown : {r : ℕ} → k < l.nodes → r ≡ v → m ≡ mark_for r → Shown (set w.masks.now k v) (set w.marks.now k m)
+    left_shown h q e =
+        rw (e, q) (shown_store w.masks.now w.marks.now k v w.shown (omega (arith, w.nodes)) (omega (arith, w.nodes, w.marks_room)))
+
+pub ruleset leaving = (rules, left_nodes, left_room, left_shown)
 
 pub ruleset cutting = (rules, part_byte, cut_gone_lem, cut_same, cut_less)
 
 -- nodes that are looked at again
 
-pub goes_none : {w : Pruning} → Ready w → Goes w w
-goes_none {w} ready = record { cut = cut_none (arena_in w.arena.now) w.masks.now; ready = ready; same = same_none w }
+pub goes_none : (w : Pruning) → Goes w w
+goes_none w = record { cut = cut_none (arena_in w.arena.now) w.masks.now; same = same_none w }
 
-pub goes_cut : {w w' : Pruning} {b : Bool} (k : ℕ) → Ready w → k < length w.masks.now → CutOnce w k w' b → Goes w w'
-goes_cut {w} k ready h cut =
+pub goes_cut : {w w' : Pruning} {b : Bool} (k : ℕ) → k < length w.masks.now → CutOnce w k w' b → Goes w w'
+goes_cut {w} k h cut =
     record {
-      cut = rw cut.left (cut_cut (arena_in w.arena.now) w.masks.now k (ready.nodes ∙ nodes_are w ready) (omega (arith, ready.nodes, nodes_are w ready)));
-      ready = cut.ready;
+      cut = rw cut.left (cut_cut (arena_in w.arena.now) w.masks.now k (w.nodes ∙ nodes_are w) (omega (arith, w.nodes, nodes_are w)));
       same = cut.same;
     }
 
 pub goes_on : {w w' w'' : Pruning} → Goes w w' → Goes w' w'' → Goes w w''
-goes_on {w} a b = record { cut = cut_on (arena_in w.arena.now) a.cut (rw a.same.arena at b.cut); ready = b.ready; same = same_on a.same b.same }
+goes_on {w} a b = record { cut = cut_on (arena_in w.arena.now) a.cut (rw a.same.arena at b.cut); same = same_on a.same b.same }
 
 pub ruleset striking = (rules, goes_none, goes_cut, goes_on)
 
@@ -144,25 +146,9 @@ either_is true b e = refl
 either_is false b e = e
 
 module _ (w : Pruning) where
-  abbrev cleared : Pruning
-  cleared = record w { tail = 0 }
-
-  pub sweep_start : Ready w → Swept cleared 0 cleared false
+  pub sweep_start : Swept w 0 w false
   unfolding swept_to changed_to
-  sweep_start ready =
-      record {
-        left = refl;
-        any = refl;
-        ready = record {
-          sized = ready.sized;
-          some_action = ready.some_action;
-          nodes = ready.nodes;
-          marks_room = ready.marks_room;
-          shown = ready.shown;
-          inside = omega arith;
-        };
-        same = same_none cleared;
-      }
+  sweep_start = record { left = refl; any = refl; same = same_none w }
 
   pub sweep_next : {k : ℕ} {v v' : Pruning} {b r : Bool} → Swept w k v b → CutOnce v k v' r → Swept w (k + 1) v' (b || r)
   sweep_next {k} {v} {v'} s c =
@@ -170,40 +156,43 @@ module _ (w : Pruning) where
       record {
         left = swept_next (arena_in w.arena.now) w.masks.now k s.left left;
         any = changed_next (arena_in w.arena.now) w.masks.now k s.left left s.any (either_is _ _ c.any);
-        ready = c.ready;
         same = same_on s.same c.same;
       }
 
-  pub sweep_end : {k : ℕ} {w' : Pruning} {b : Bool} → Ready w → k ≤ length w.masks.now → length w.masks.now ≤ k → Swept cleared k w' b
-      → Swept w w.arena.now.level.nodes w' b
-  sweep_end {k} {w'} {b} ready h g s =
-      let q : k ≡ w.arena.now.level.nodes = omega (arith, ready.nodes) in
-      let t : Swept w k w' b = record { left = s.left; any = s.any; ready = s.ready; same = since_clear s.same } in
-      rw q at t
-    where
-      since_clear : {v : Pruning} → Same cleared v → Same w v
-      since_clear s = record { arena = s.arena; masks = s.masks; marks = s.marks; queue = s.queue; room = s.room }
+  -- the sweep began with an empty queue
+  pub sweep_end : {k t : ℕ} {h : t ≤ length w.queue.now} {w' : Pruning} {b : Bool} → k ≤ length w.masks.now → length w.masks.now ≤ k
+      → Swept (record w { tail = t; inside = h }) k w' b → Swept w w.arena.now.level.nodes w' b
+  sweep_end {k} {t} {h} {w'} {b} l g s =
+      let q : k ≡ w.arena.now.level.nodes = omega (arith, w.nodes) in
+      let same = s.same in
+      let r : Swept w k w' b =
+      record {
+        left = s.left;
+        any = s.any;
+        same = record { arena = same.arena; masks = same.masks; marks = same.marks; queue = same.queue; room = same.room };
+      } in
+      rw q at r
 
 pub ruleset sweeping = (rules, sweep_start, sweep_next, sweep_end)
 
 -- a sweep with what follows it
 
-module _ {w w' : Pruning} {b : Bool} (ready : Ready w) (swept : Swept w w.arena.now.level.nodes w' b) where
+module _ {w w' : Pruning} {b : Bool} (swept : Swept w w.arena.now.level.nodes w' b) where
   abbrev here : Arena
   here = arena_in w.arena.now
 
   size : length w.masks.now ≡ here.nodes
-  size = ready.nodes ∙ nodes_are w ready
+  size = w.nodes ∙ nodes_are w
 
   left_is : w'.masks.now ≡ swept_to here w.masks.now here.nodes
-  left_is = swept.left ∙ ap (swept_to here w.masks.now) (nodes_are w ready)
+  left_is = swept.left ∙ ap (swept_to here w.masks.now) (nodes_are w)
 
   any_is : b ≡ changed_to here w.masks.now here.nodes
-  any_is = swept.any ∙ ap (changed_to here w.masks.now) (nodes_are w ready)
+  any_is = swept.any ∙ ap (changed_to here w.masks.now) (nodes_are w)
 
   sweep_goes : Goes w w'
   sweep_goes =
-      record { cut = rw left_is (swept_cut here w.masks.now size here.nodes (omega arith)); ready = swept.ready; same = swept.same }
+      record { cut = rw left_is (swept_cut here w.masks.now size here.nodes (omega arith)); same = swept.same }
 
   sweep_less : not b ≡ false → total w'.masks.now < total w.masks.now
   sweep_less e = rw left_is (changed_less here w.masks.now size here.nodes (omega arith) (sym any_is ∙ not-false b e))
@@ -248,36 +237,35 @@ zeros n k =
     (λ (h : n ≤ k). get_or-eq_default {A = ℕ} (replicate n 0) 0 (rw (length-replicate {A = ℕ} n 0) h))
     (below? k n)
 
-module _ (w : Pruning) (sized : IsSized w.arena.now) (act : 1 ≤ w.arena.now.level.actions)
-    (nodes : length w.masks.now ≡ w.arena.now.level.nodes) where
+pub start_sized : {positions : ℕ} {l : Level} {r : Bool} → r ≡ is_sized positions l → r ≡ true → Sized positions l
+start_sized {positions} {l} e t = sized_level positions l e (rw t refl)
+
+module _ {positions : ℕ} (l : Level) (masks marks : List ℕ) (sized : Sized positions l) (nodes : length masks ≡ l.nodes)
+    (after : marks ≡ marks_after masks (replicate most_nodes 0)) where
   abbrev blank : List ℕ
   blank = replicate most_nodes 0
 
-  pub start_ready : w.marks.now ≡ marks_after w.masks.now blank → w.tail ≡ 0 → Ready w
+  fits : length masks ≤ length blank
+  fits = omega (arith, length-replicate {A = ℕ} most_nodes 0, nodes, sized.few_nodes)
+
+  pub start_room : l.nodes ≤ length marks
+  start_room = rw after (omega (arith, fits, nodes, after_length masks blank fits))
+
+  -- every mark shows its node's mask
+  pub start_shown : Shown masks marks
   unfolding fallen_by fallen_in mark_at mark_for
-  start_ready e t =
-      let masks = w.masks.now in
-      let z = length-replicate {A = ℕ} most_nodes 0 in
-      let few = sized.few_nodes in
-      let r : length masks ≤ length blank = omega arith in
+  start_shown =
       record {
-        sized = sized;
-        some_action = omega arith;
-        nodes = nodes;
-        marks_room = rw e (omega (arith, after_length masks blank r));
-        shown = record {
-          same = λ k.
-              rw e
-              (⊎_elim
-              (λ (h : k < length masks).
-              rw (after_marked masks blank r k h)
-              (mark_fallen (eqb (get_or masks k 0) 0) ∙ sym (both_second _ _ (lt-ltb k (length masks) h))))
-              (λ (h : length masks ≤ k).
-              rw (after_beyond masks blank r k h, zeros most_nodes k)
-              (both_none _ _ refl ∙ sym (both_none _ _ (le-ltb k (length masks) h))))
-              (below? k (length masks)));
-        };
-        inside = omega arith;
+        same = λ k.
+            rw after
+            (⊎_elim
+            (λ (h : k < length masks).
+            rw (after_marked masks blank fits k h)
+            (mark_fallen (eqb (get_or masks k 0) 0) ∙ sym (both_second _ _ (lt-ltb k (length masks) h))))
+            (λ (h : length masks ≤ k).
+            rw (after_beyond masks blank fits k h, zeros most_nodes k)
+            (both_none _ _ refl ∙ sym (both_none _ _ (le-ltb k (length masks) h))))
+            (below? k (length masks)));
       }
 
 -- any level and masks
@@ -304,4 +292,4 @@ module _ (p : List ℕ) (g : List (List ℕ)) (u f : List ℕ) (l : Level) (mask
   unfolding PrunedBy is_prunable
   left_pruned s a d x = rw (both_true _ _ (fitted (length p) l (length masks) s d) (le-leb 1 l.actions a)) x
 
-pub ruleset pruning = (rules, start_ready, left_alone, left_pruned, sized_level)
+pub ruleset pruning = (rules, left_alone, left_pruned, sized_level)

@@ -1,6 +1,7 @@
 // Bits go out of a node's mask where the judging rule does not allow them. A node whose mask is gone is marked as fallen from then on.
-ghost use Rattle.std.specs.Prelude.{◌<◌};
-ghost use Rattle.prune.specs.code.Pruning.{Ready, Left, CutOnce};
+ghost use Rattle.std.specs.Prelude.{◌≡◌, ◌≤◌, ◌<◌, length};
+ghost use Rattle.walk.specs.code.Arenas.{IsSized};
+ghost use Rattle.prune.specs.code.Pruning.{Shown};
 
 use crate::strike::Moves;
 use rule::part::{allowed_part, mark_for};
@@ -8,7 +9,8 @@ use walk::arena::Arena;
 
 // The masks that bits go out of, over a game's arrays; the marks by which the walk counts a node without a mask as fallen; and a queue: the
 // first so many of its entries are nodes that fell, as far as it has room. It tells which nodes are worth another look, as the moves tell
-// which position leads where, and no more hangs on either.
+// which position leads where, and no more hangs on either. The level is small and has an action, each node has a mask and a mark that
+// shows it, and no more stands in the queue than it has room for.
 #[derive(Drop)]
 pub struct Pruning<'a, 'm> {
     pub arena: &'a Arena<'a>,
@@ -17,16 +19,28 @@ pub struct Pruning<'a, 'm> {
     pub marks: &'m mut [u16],
     pub queue: &'m mut [u16],
     pub tail: usize,
+    ghost sized: { IsSized arena.now },
+    ghost some_action: { 0 < arena.now.level.actions },
+    ghost nodes: { length masks.now ≡ arena.now.level.nodes },
+    ghost marks_room: { arena.now.level.nodes ≤ length marks.now },
+    ghost shown: { Shown masks.now marks.now },
+    ghost inside: { tail ≤ length queue.now },
 }
 
 impl Pruning<'_, '_> {
-    // What is left of node k's mask is stored. A node whose mask is gone joins the queue.
+    ghost use Rattle.prune.specs.code.Views.{Left, CutOnce};
+
+    // What is left of node k's mask is stored. A node whose mask is gone joins the queue. The mask and its mark are written through
+    // references of their own, since after a write through self's alone the marks would have to show the masks at once.
+    #[tactic(auto, using(crate::proofs::PruneCode::leaving))]
     fn leave(&mut self, k: usize, rest: u8)
-        requires { (Ready self.old) × (k < self.old.arena.now.level.nodes) }
+        requires { k < self.old.arena.now.level.nodes }
         ensures { Left self.old k rest self.new }
     {
-        self.masks[k] = rest;
-        self.marks[k] = mark_for(usize::from(rest));
+        let masks = &mut *self.masks;
+        let marks = &mut *self.marks;
+        masks[k] = rest;
+        marks[k] = mark_for(usize::from(rest));
         let tail = self.tail;
         if rest == 0 && tail < self.queue.len() {
             self.queue[tail] = k as u16;
@@ -37,7 +51,7 @@ impl Pruning<'_, '_> {
     // Node k keeps the part of its mask that may stand by the marks. Says whether it had more.
     #[tactic(auto, using(crate::proofs::PruneCode::cutting))]
     pub(crate) fn cut(&mut self, k: usize) -> bool
-        requires { (Ready self.old) × (k < self.old.arena.now.level.nodes) }
+        requires { k < self.old.arena.now.level.nodes }
         ensures { CutOnce self.old k self.new result }
     {
         let mask = self.masks[k];

@@ -1,7 +1,8 @@
 // Sweeps over all masks, until one changes nothing.
 ghost use Rattle.std.specs.Prelude.{◌≡◌};
 ghost use Rattle.walk.specs.code.Arenas.{arena_in};
-ghost use Rattle.prune.specs.code.Pruning.{Ready, Swept, SweptOn, Pruned, PrunedOver};
+ghost use Rattle.prune.specs.code.Pruning.{Pruned, PrunedOver};
+ghost use Rattle.prune.specs.code.Views.{Swept, SweptOn};
 
 use crate::cut::Pruning;
 use crate::strike::{MOVES_ROW, note_moves};
@@ -18,7 +19,6 @@ impl Pruning<'_, '_> {
     // that fell stand in the queue.
     #[tactic(auto, using(crate::proofs::PruneCode::sweeping))]
     fn sweep(&mut self) -> bool
-        requires { Ready self.old }
         ensures { Swept self.old self.old.arena.now.level.nodes self.new result }
     {
         self.tail = 0;
@@ -31,7 +31,6 @@ impl Pruning<'_, '_> {
 
     // One sweep, and a look at the nodes before the few that fell in it. Says whether the sweep changed anything.
     fn sweep_on(&mut self) -> bool
-        requires { Ready self.old }
         ensures { SweptOn self.old self.new result }
     {
         if !self.sweep() {
@@ -45,7 +44,6 @@ impl Pruning<'_, '_> {
 
     // Until a sweep changes nothing.
     fn sweep_all(&mut self)
-        requires { Ready self.old }
         ensures { (Pruned (arena_in self.old.arena.now) self.old.masks.now self.new.masks.now)
             × (self.new.masks.ghost_name ≡ self.old.masks.ghost_name) }
     {

@@ -3,7 +3,7 @@
 // of the masks no more than that bits went out of them which the rule does not allow.
 ghost use Rattle.std.specs.Prelude.{◌≤◌, ◌<◌};
 ghost use Rattle.sheet.specs.Limits.{most_actions, most_nodes};
-ghost use Rattle.prune.specs.code.Pruning.{Ready, Goes};
+ghost use Rattle.prune.specs.code.Views.{Goes};
 
 use crate::cut::Pruning;
 use sheet::limits::{ROW, ROWS};
@@ -76,7 +76,6 @@ impl Spot {
 impl Pruning<'_, '_> {
     // The node of position q whose oldest action is h is looked at again, where it has the action that leads to the fallen one.
     fn strike(&mut self, spot: &Spot, q: u8, h: u8)
-        requires { Ready self.old }
         ensures { Goes self.old self.new }
     {
         let k = spot.node(q, h);
@@ -87,7 +86,6 @@ impl Pruning<'_, '_> {
 
     // Odd delays: a move leads to position s, from where action h leads to the fallen node's.
     fn strike_sources(&mut self, spot: &Spot, s: u8, h: u8)
-        requires { Ready self.old }
         ensures { Goes self.old self.new }
     {
         for q in 0..self.arena.positions.len() {
@@ -100,7 +98,6 @@ impl Pruning<'_, '_> {
 
     // Action h leads from position s to t, where that is one. Even delays: a move leads from there to the fallen node's position.
     fn strike_cell(&mut self, spot: &Spot, s: u8, h: u8, t: u16)
-        requires { Ready self.old }
         ensures { Goes self.old self.new }
     {
         let Ok(t) = u8::try_from(t) else {
@@ -117,7 +114,6 @@ impl Pruning<'_, '_> {
 
     // The actions at position s.
     fn strike_row(&mut self, spot: &Spot, s: u8, row: &[u16; ROW])
-        requires { Ready self.old }
         ensures { Goes self.old self.new }
     {
         for (h, &t) in row.iter().enumerate() {
@@ -127,7 +123,6 @@ impl Pruning<'_, '_> {
 
     // All nodes before node j.
     fn strike_before(&mut self, j: usize)
-        requires { Ready self.old }
         ensures { Goes self.old self.new }
     {
         let arena = self.arena;
@@ -141,7 +136,6 @@ impl Pruning<'_, '_> {
 
     // All nodes before those in the queue, and before those that join it meanwhile: a `while`, since the queue grows.
     pub(crate) fn drain(&mut self)
-        requires { Ready self.old }
         ensures { Goes self.old self.new }
     {
         let mut at: usize = 0;

@@ -1,5 +1,5 @@
 -- Taking bits out of masks, node by node, until what is left stands by the judging rule. Assumes nothing.
-use Rattle.std.specs.Prelude.{ℕ, zero, suc, ◌+◌, ◌≤◌, ◌<◌, ◌≡◌, Bool, true, false, not, List, [], ◌∷◌, eqb, leb, ltb, length, get_or, set}
+use Rattle.std.specs.Prelude.{ℕ, zero, suc, ◌+◌, ◌<◌, ◌≡◌, Bool, true, false, not, List, [], ◌∷◌, eqb, leb, ltb, length, get_or, set}
 use Rattle.theory.specs.Fold.{both, either}
 use Rattle.theory.specs.Rounds.{Arena, spoilt_by}
 use Rattle.theory.specs.Table.{bit}
@@ -8,10 +8,8 @@ use Rattle.walk.specs.declared.arena.Arena.{Arena as Arrays}
 use Rattle.walk.specs.declared.level.Level.{Level}
 use Rattle.walk.specs.code.Levels.{arena_of}
 use Rattle.walk.specs.code.Nodes.{is_fitted}
-use Rattle.walk.specs.code.Arenas.{arena_in, IsSized}
 use Rattle.walk.specs.code.Walks.{fallen_by}
-use Rattle.rule.specs.code.Parts.{mark_for, part_of}
-use Rattle.prune.specs.declared.cut.Pruning.{Pruning}
+use Rattle.rule.specs.code.Parts.{part_of}
 
 -- the nodes whose mask is gone count as fallen
 unfoldable pub fallen_in : List ℕ → ℕ → Bool
@@ -21,43 +19,12 @@ fallen_in masks k = both (ltb k (length masks)) (eqb (get_or masks k 0) 0)
 pub record Shown (masks marks : List ℕ) : Type 0 where
   pub same : (k : ℕ) → fallen_by 1 marks k ≡ fallen_in masks k
 
--- the same arena and the same buffers, the queue as long as it was
-pub record Same (w w' : Pruning) : Type 0 where
-  pub arena : w'.arena.now ≡ w.arena.now
-  pub masks : w'.masks.ghost_name ≡ w.masks.ghost_name
-  pub marks : w'.marks.ghost_name ≡ w.marks.ghost_name
-  pub queue : w'.queue.ghost_name ≡ w.queue.ghost_name
-  pub room : length w'.queue.now ≡ length w.queue.now
-
--- a small level with an action, a mask and a mark for each node, and no more in the queue than it has room for
-pub record Ready (w : Pruning) : Type 0 where
-  pub sized : IsSized w.arena.now
-  pub some_action : 0 < w.arena.now.level.actions
-  pub nodes : length w.masks.now ≡ w.arena.now.level.nodes
-  pub marks_room : w.arena.now.level.nodes ≤ length w.marks.now
-  pub shown : Shown w.masks.now w.marks.now
-  pub inside : w.tail ≤ length w.queue.now
-
--- node k has what is left of its mask, and the mark for that
-pub record Left (w : Pruning) (k v : ℕ) (w' : Pruning) : Type 0 where
-  pub masks : w'.masks.now ≡ set w.masks.now k v
-  pub marks : w'.marks.now ≡ set w.marks.now k (mark_for v)
-  pub inside : w'.tail ≤ length w'.queue.now
-  pub same : Same w w'
-
 -- the part of node k's mask that may stand, and the masks once it alone is left there
 unfoldable pub part_now : Arena → List ℕ → ℕ → ℕ
 part_now E masks k = part_of E (fallen_in masks) k (get_or masks k 0)
 
 unfoldable pub cut_at : Arena → List ℕ → ℕ → List ℕ
 cut_at E masks k = set masks k (part_now E masks k)
-
--- node k keeps the part of its mask that may stand, and had more or not
-pub record CutOnce (w : Pruning) (k : ℕ) (w' : Pruning) (changed : Bool) : Type 0 where
-  pub left : w'.masks.now ≡ cut_at (arena_in w.arena.now) w.masks.now k
-  pub any : changed ≡ not (eqb (get_or w'.masks.now k 0) (get_or w.masks.now k 0))
-  pub ready : Ready w'
-  pub same : Same w w'
 
 -- one node after the other, each by what the ones before it have left
 unfoldable pub swept_to : Arena → List ℕ → ℕ → List ℕ
@@ -82,19 +49,6 @@ pub record Cut (E : Arena) (masks masks' : List ℕ) : Type 0 where
   pub below : BelowMasks masks' masks
   pub holds : (x : List ℕ) → SizedMasks E x → Standing E x → BelowMasks x masks → BelowMasks x masks'
 
--- the same of a call, with what it leaves in the other buffers
-pub record Goes (w w' : Pruning) : Type 0 where
-  pub cut : Cut (arena_in w.arena.now) w.masks.now w'.masks.now
-  pub ready : Ready w'
-  pub same : Same w w'
-
--- a sweep that has come to node k, and whether a mask had more
-pub record Swept (w : Pruning) (k : ℕ) (w' : Pruning) (changed : Bool) : Type 0 where
-  pub left : w'.masks.now ≡ swept_to (arena_in w.arena.now) w.masks.now k
-  pub any : changed ≡ changed_to (arena_in w.arena.now) w.masks.now k
-  pub ready : Ready w'
-  pub same : Same w w'
-
 -- every node has just the part of its mask that may stand
 pub record Pruned (E : Arena) (masks masks' : List ℕ) : Type 0 where
   pub cut : Cut E masks masks'
@@ -104,12 +58,6 @@ pub record Pruned (E : Arena) (masks masks' : List ℕ) : Type 0 where
 unfoldable pub total : List ℕ → ℕ
 total [] = 0
 total (m ∷ masks) = m + total masks
-
--- a sweep with what follows it: it makes the masks less, or they stand
-pub record SweptOn (w w' : Pruning) (changed : Bool) : Type 0 where
-  pub goes : Goes w w'
-  pub less : changed ≡ true → total w'.masks.now < total w.masks.now
-  pub over : changed ≡ false → Pruned (arena_in w.arena.now) w.masks.now w'.masks.now
 
 -- a level that is small and has an action, and masks for its nodes
 unfoldable pub is_prunable : ℕ → Level → ℕ → Bool

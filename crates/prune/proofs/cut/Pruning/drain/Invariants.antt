@@ -1,6 +1,6 @@
 -- `drain` meets its contract. Assumes nothing.
 use Rattle.std.proofs.Common.{◌-◌, ◌≤◌, length}
-use Rattle.prune.specs.code.Pruning.{Goes}
+use Rattle.prune.specs.code.Views.{Goes}
 use Rattle.prune.proofs.cut.Pruning.drain.Given as goal
 
 abbrev pub invariant-loop-at : goal.invariant-loop-at

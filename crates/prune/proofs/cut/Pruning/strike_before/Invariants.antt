@@ -1,5 +1,5 @@
 -- `strike_before` meets its contract. Assumes nothing.
-use Rattle.prune.specs.code.Pruning.{Goes}
+use Rattle.prune.specs.code.Views.{Goes}
 use Rattle.prune.proofs.cut.Pruning.strike_before.Given as goal
 
 abbrev pub invariant-loop-s : goal.invariant-loop-s

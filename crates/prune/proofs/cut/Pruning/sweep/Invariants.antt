@@ -1,5 +1,5 @@
 -- `sweep` meets its contract. Assumes nothing.
-use Rattle.prune.specs.code.Pruning.{Swept}
+use Rattle.prune.specs.code.Views.{Swept}
 use Rattle.prune.proofs.cut.Pruning.sweep.Given as goal
 
 abbrev pub invariant-loop-k : goal.invariant-loop-k

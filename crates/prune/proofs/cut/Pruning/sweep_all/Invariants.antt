@@ -1,5 +1,6 @@
 -- `sweep_all` meets its contract. Assumes nothing.
-use Rattle.prune.specs.code.Pruning.{Goes, total}
+use Rattle.prune.specs.code.Pruning.{total}
+use Rattle.prune.specs.code.Views.{Goes}
 use Rattle.prune.proofs.cut.Pruning.sweep_all.Given as goal
 
 abbrev pub invariant-loop : goal.invariant-loop
