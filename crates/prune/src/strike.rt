@@ -84,7 +84,9 @@ impl Pruning<'_, '_> {
         }
     }
 
-    // Odd delays: a move leads to position s, from where action h leads to the fallen node's.
+    // Odd delays: a move leads to position s, from where action h leads to the fallen node's. Not inlined: few cells come here, and the
+    // search among all of them keeps its numbers in registers.
+    #[inline(never)]
     fn strike_sources(&mut self, spot: &Spot, s: u8, h: u8)
         ensures { Goes self.old self.new }
     {
