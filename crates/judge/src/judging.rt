@@ -7,7 +7,7 @@ ghost use Rattle.sheet.specs.Bodies.{delay_of};
 ghost use Rattle.sheet.specs.Refusals.{answer_by};
 ghost use Rattle.sheet.specs.SheetGame.{game_of};
 ghost use Rattle.reader.specs.Reading.{read_answer};
-ghost use Rattle.walk.specs.code.Arenas.{arena_in, IsSized};
+ghost use Rattle.walk.specs.code.Arenas.{arena_in};
 ghost use Rattle.judge.specs.Judging.{judge_answer, ruling_of};
 ghost use Rattle.judge.specs.code.Tests.{whole_at, flag_stands, good_flags, first_failing};
 ghost use Rattle.judge.specs.code.Judgeable.{layouts_agree, Judgeable, table_with};
@@ -23,6 +23,7 @@ use sheet::refusal::Refusal;
 use table::reading::{TableLayout, mask_of, read as read_table};
 use walk::arena::Arena;
 use walk::level::level_at;
+use walk::sized::SizedArena;
 
 // The number of the first offending word in W, or of the first offending node.
 #[derive(Clone, Copy, Debug, PartialEq, Eq)]
@@ -76,23 +77,22 @@ fn first_bad_word(sheet: &[u8], flags: &[u8], marks: &[u16]) -> Option<usize>
 
 // May the whole mask of node k, which exists, stand?
 #[tactic(auto, using(crate::proofs::JudgeLaws::whole_here))]
-fn is_whole(arena: &Arena, masks: &[u8], marks: &[u16], k: usize) -> bool
-    requires { (IsSized arena.now) × (k < arena.now.level.nodes) }
-    ensures { result ≡ whole_at (arena_in arena.now) marks.now masks.now k }
+fn is_whole(sized: &SizedArena, masks: &[u8], marks: &[u16], k: usize) -> bool
+    requires { k < sized.now.arena.now.level.nodes }
+    ensures { result ≡ whole_at (arena_in sized.now.arena.now) marks.now masks.now k }
 {
     let mask = mask_of(masks, k);
-    allowed_part(arena, marks, k, mask) == mask
+    allowed_part(sized.arena, marks, k, mask) == mask
 }
 
 // The first node whose mask may not stand whole.
 #[tactic(auto, using(crate::proofs::JudgeLaws::searching))]
-fn first_unsound(arena: &Arena, masks: &[u8], marks: &[u16]) -> Option<usize>
-    requires { IsSized arena.now }
-    ensures { result ≡ first_failing (whole_at (arena_in arena.now) marks.now masks.now) arena.now.level.nodes }
+fn first_unsound(sized: &SizedArena, masks: &[u8], marks: &[u16]) -> Option<usize>
+    ensures { result ≡ first_failing (whole_at (arena_in sized.now.arena.now) marks.now masks.now) sized.now.arena.now.level.nodes }
 {
     // not `find`, whose closure must take every number: `is_whole` takes nodes alone
-    for k in 0..arena.level.nodes {
-        if !is_whole(arena, masks, marks, k) {
+    for k in 0..sized.arena.level.nodes {
+        if !is_whole(sized, masks, marks, k) {
             return Some(k);
         }
     }
@@ -119,7 +119,7 @@ fn first_bad_node(sheet: &[u8], l: Layout, masks: &[u8], marks: &[u16]) -> Optio
         firsts: &firsts,
         level: level_at(positions.len(), l.start, l.actions, l.delay),
     };
-    first_unsound(&arena, masks, marks)
+    first_unsound(&SizedArena { arena: &arena }, masks, marks)
 }
 
 // Judging by the W and T bodies: words before nodes.

@@ -2,12 +2,12 @@
 // numbers here, however many bytes a sheet has for them.
 ghost use Rattle.std.specs.Prelude.{◌≡◌, ◌<◌};
 ghost use Rattle.theory.specs.Rounds.{mask_below};
-ghost use Rattle.walk.specs.code.Arenas.{IsSized};
 ghost use Rattle.rule.specs.code.Parts.{mark_for, marks_after, stays_at, part_at};
 
 use sheet::kinds::{on_right, safe_at};
 use table::reading::{mask_count, mask_of};
 use walk::arena::{Arena, Fallen};
+use walk::sized::SizedArena;
 
 // A node's mark for the walk: 1, fallen, where it has no mask.
 #[tactic(auto, unfolding(crate::specs::code::Parts::mark_for))]
@@ -32,15 +32,15 @@ pub fn fill_marks(masks: &[u8], marks: &mut [u16])
 }
 
 // The bits of a mask whose actions are not spoilt at node k, which exists.
-fn unspoilt_part(arena: &Arena, marks: &[u16], k: usize, mask: usize) -> usize
-    requires { (IsSized arena.now) × (k < arena.now.level.nodes) }
-    ensures { result ≡ mask_below (stays_at arena.now marks.now k mask) arena.now.level.actions }
+fn unspoilt_part(sized: &SizedArena, marks: &[u16], k: usize, mask: usize) -> usize
+    requires { k < sized.now.arena.now.level.nodes }
+    ensures { result ≡ mask_below (stays_at sized.now.arena.now marks.now k mask) sized.now.arena.now.level.actions }
 {
     let fallen = Fallen { marks, last: 1 };
     let mut part: usize = 0;
-    for c in 0..arena.level.actions {
+    for c in 0..sized.arena.level.actions {
         let left = mask >> c;
-        if left % 2 == 1 && !arena.spoilt(&fallen, k, c) {
+        if left % 2 == 1 && !sized.arena.spoilt(&fallen, k, c) {
             part += 1 << c;
         }
     }
@@ -63,5 +63,5 @@ pub fn allowed_part(arena: &Arena, marks: &[u16], k: usize, mask: usize) -> usiz
     if !safe_at(arena.positions, q) {
         return 0;
     }
-    unspoilt_part(arena, marks, k, mask)
+    unspoilt_part(&SizedArena { arena }, marks, k, mask)
 }

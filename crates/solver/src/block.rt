@@ -1,7 +1,7 @@
 // Nodes at which every action is spoilt whatever falls: the oldest action is absent or an unsafe position is passed. They fall in
 // round 2.
 ghost use Rattle.std.specs.Prelude.{◌≡◌, ◌+◌, ◌*◌, ◌≤◌, ◌<◌, length};
-ghost use Rattle.walk.specs.code.Arenas.{arena_in, IsSized};
+ghost use Rattle.walk.specs.code.Arenas.{arena_in};
 ghost use Rattle.sheet.specs.Limits.{most_nodes};
 ghost use Rattle.solver.specs.code.Sizes.{largest16};
 ghost use Rattle.solver.specs.code.Work.{spoil_row_to};
@@ -11,14 +11,16 @@ ghost use Rattle.solver.specs.code.Block.{blocked_at, block_to, blocks_to};
 use crate::mark::Worklist;
 use sheet::grid::target;
 use sheet::kinds::{on_right, safe_at};
-use walk::arena::{Arena, Fallen};
+use walk::arena::Fallen;
+use walk::sized::SizedArena;
 
 // Is row b of the nodes blocked: has its position and oldest action an absent outcome, at a safe position of the right side?
 #[tactic(auto, using(crate::proofs::BlockCode::blocking))]
-fn blocked(arena: &Arena, younger: usize, b: usize) -> bool
-    requires { (IsSized arena.now) × (Fitted arena.now.level younger) × (b < length arena.now.positions.now * arena.now.level.actions) }
-    ensures { result ≡ blocked_at (arena_in arena.now) (b * younger) }
+fn blocked(sized: &SizedArena, younger: usize, b: usize) -> bool
+    requires { (Fitted sized.now.arena.now.level younger) × (b < length sized.now.arena.now.positions.now * sized.now.arena.now.level.actions) }
+    ensures { result ≡ blocked_at (arena_in sized.now.arena.now) (b * younger) }
 {
+    let arena = sized.arena;
     let level = arena.level;
     let q = b / level.actions;
     if !on_right(arena.positions, level.odd, q) {
@@ -54,23 +56,24 @@ impl Worklist<'_> {
     }
 
     // Row b falls in round 2 if it is blocked.
-    fn block_row(&mut self, arena: &Arena, younger: usize, b: usize)
-        requires { (IsSized arena.now) × (Fitted arena.now.level younger) × (b < length arena.now.positions.now * arena.now.level.actions) }
-        ensures { Turned self.old (block_to (arena_in arena.now) younger (listed self.old) b) self.new }
+    fn block_row(&mut self, sized: &SizedArena, younger: usize, b: usize)
+        requires { (Fitted sized.now.arena.now.level younger) × (b < length sized.now.arena.now.positions.now * sized.now.arena.now.level.actions) }
+        ensures { Turned self.old (block_to (arena_in sized.now.arena.now) younger (listed self.old) b) self.new }
     {
-        if blocked(arena, younger, b) {
+        if blocked(sized, younger, b) {
             self.spoil_row(1, b * younger, younger);
         }
     }
 
     // All blocked rows fall in round 2.
-    pub(crate) fn block(&mut self, arena: &Arena, younger: usize)
-        requires { (IsSized arena.now) × (Fitted arena.now.level younger) }
-        ensures { Turned self.old (blocks_to (arena_in arena.now) younger (listed self.old) 0
-            (length arena.now.positions.now * arena.now.level.actions)) self.new }
+    pub(crate) fn block(&mut self, sized: &SizedArena, younger: usize)
+        requires { Fitted sized.now.arena.now.level younger }
+        ensures { Turned self.old (blocks_to (arena_in sized.now.arena.now) younger (listed self.old) 0
+            (length sized.now.arena.now.positions.now * sized.now.arena.now.level.actions)) self.new }
     {
+        let arena = sized.arena;
         for b in 0..arena.positions.len() * arena.level.actions {
-            self.block_row(arena, younger, b);
+            self.block_row(sized, younger, b);
         }
     }
 }

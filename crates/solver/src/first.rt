@@ -1,11 +1,10 @@
 // Round 1: the unsafe nodes of the right side fall, and the safe ones have every action.
 ghost use Rattle.std.specs.Prelude.{◌≡◌, ◌+◌, ◌*◌, ◌<◌, length};
-ghost use Rattle.walk.specs.code.Nodes.{Sized};
-ghost use Rattle.solver.specs.code.First.{row_falls, row_mask, Placed};
+ghost use Rattle.solver.specs.code.First.{row_falls, row_mask};
 
 use crate::mark::Worklist;
 use sheet::kinds::{on_right, safe_at};
-use walk::level::Level;
+use walk::sized::SizedArena;
 
 // Do the nodes of position q fall in round 1?
 #[tactic(auto, unfolding(crate::specs::code::First::row_falls, theory::specs::Fold::both))]
@@ -28,13 +27,15 @@ fn row_mask(p: &[u8], odd: bool, full: u8, q: usize) -> u8
 }
 
 impl Worklist<'_> {
-    ghost use Rattle.solver.specs.code.Views.{listed, Same};
+    ghost use Rattle.solver.specs.code.Views.{Same, PlacedTo};
 
     // The nodes of position q.
-    fn first_row(&mut self, p: &[u8], level: Level, full: u8, q: usize)
-        requires { (Sized (length p.now) level) × (q < length p.now) × (Placed p.now level full (q * level.words) (listed self.old)) }
-        ensures { (Same self.old self.new) × (Placed p.now level full (q * level.words + level.words) (listed self.new)) }
+    fn first_row(&mut self, sized: &SizedArena, full: u8, q: usize)
+        requires { (q < length sized.now.arena.now.positions.now) × (PlacedTo sized.now.arena.now full (q * sized.now.arena.now.level.words) self.old) }
+        ensures { (Same self.old self.new) × (PlacedTo sized.now.arena.now full (q * sized.now.arena.now.level.words + sized.now.arena.now.level.words) self.new) }
     {
+        let p = sized.arena.positions;
+        let level = sized.arena.level;
         let falls = row_falls(p, level.odd, q);
         let mask = row_mask(p, level.odd, full, q);
         let start = q * level.words;
@@ -51,12 +52,12 @@ impl Worklist<'_> {
     }
 
     // All nodes.
-    pub(crate) fn first(&mut self, p: &[u8], level: Level, full: u8)
-        requires { (Sized (length p.now) level) × (length self.old.masks.now ≡ level.nodes) × (self.old.tail ≡ 0) }
-        ensures { (Same self.old self.new) × (Placed p.now level full level.nodes (listed self.new)) }
+    pub(crate) fn first(&mut self, sized: &SizedArena, full: u8)
+        requires { (length self.old.masks.now ≡ sized.now.arena.now.level.nodes) × (self.old.tail ≡ 0) }
+        ensures { (Same self.old self.new) × (PlacedTo sized.now.arena.now full sized.now.arena.now.level.nodes self.new) }
     {
-        for q in 0..p.len() {
-            self.first_row(p, level, full, q);
+        for q in 0..sized.arena.positions.len() {
+            self.first_row(sized, full, q);
         }
     }
 }

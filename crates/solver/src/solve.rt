@@ -16,6 +16,7 @@ use sheet::moves::first_lines;
 use sheet::refusal::Refusal;
 use walk::arena::{Arena, Fallen};
 use walk::level::level_at;
+use walk::sized::SizedArena;
 
 // Losing: the least delay at which no strategy wins.
 #[derive(Clone, Copy, Debug, PartialEq, Eq)]
@@ -51,7 +52,7 @@ fn fill(arena: &Arena, l: Layout, masks: &mut [u8], ranks: &mut [u16]) -> Stop
         marks: &ranks[..nodes],
         last: stop.rounds,
     };
-    mask_level(&here, &fallen, &mut masks[..nodes]);
+    mask_level(&SizedArena { arena: &here }, &fallen, &mut masks[..nodes]);
     stop
 }
 

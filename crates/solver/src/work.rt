@@ -10,6 +10,7 @@ use crate::mark::Worklist;
 use crate::sweep::Round;
 use sheet::limits::MOST_NODES;
 use walk::arena::Arena;
+use walk::sized::SizedArena;
 
 // The mask of so many actions.
 fn full_mask(actions: usize) -> u8
@@ -33,10 +34,11 @@ fn all_rounds(
     ensures { (Same work.old work.new) × (Worked (arena_in arena.now) work.new.ranks.now work.new.masks.now result) }
 {
     let level = arena.level;
-    work.first(arena.positions, level, full_mask(level.actions));
+    let sized = SizedArena { arena };
+    work.first(&sized, full_mask(level.actions));
     let mut lo: usize = 0;
     let mut hi = work.tail;
-    work.block(arena, younger);
+    work.block(&sized, younger);
     let mut n: u16 = 1;
     let last = 'rounds: loop {
         let round = Round { level, younger, n };

@@ -3,4 +3,5 @@
 
 pub mod level; // the numbers of one delay
 pub mod arena; // what the walk goes over
+pub mod sized; // an arena whose level is small enough
 pub mod walk; // which actions are spoilt, and whether all are

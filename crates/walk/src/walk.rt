@@ -5,10 +5,11 @@ ghost use Rattle.sheet.specs.Limits.{most_positions};
 ghost use Rattle.sheet.specs.code.Steps.{most_power};
 ghost use Rattle.sheet.specs.code.Arrays.{index_entries};
 ghost use Rattle.walk.specs.code.Walks.{moving_from};
-ghost use Rattle.walk.specs.code.Arenas.{IsSized, choice_for, has_fallen, outcome_on, last_below};
+ghost use Rattle.walk.specs.code.Arenas.{choice_for, has_fallen, outcome_on, last_below};
 ghost use Rattle.walk.specs.code.Arenas.{spoilt_at, all_spoilt_at, spoilt, all_spoilt};
 
 use crate::arena::{Arena, Fallen};
+use crate::sized::SizedArena;
 use sheet::form::byte;
 use sheet::grid::target;
 use sheet::kinds::safe_at;
@@ -43,52 +44,56 @@ impl Arena<'_> {
             end: self.line_of(q + 1),
         }
     }
+}
 
+impl SizedArena<'_> {
     // Action c joined to the pending word w, at position q; none where it is spoilt before the environment moves.
     #[tactic(auto, unfolding(crate::specs::code::Walks::choice_at, crate::specs::code::Walks::played_at, crate::specs::code::Walks::moves_after), using(crate::proofs::WalkLaws::safe_small))]
     fn choose(&self, q: usize, w: usize, c: usize) -> Option<Choice>
-        requires { (IsSized self.now) × (q < most_positions) × (w < self.now.level.words) × (c < self.now.level.actions) }
-        ensures choice { result ≡ choice_for self.now q w c }
-        ensures small { IfSome result (λ x. (x.end < most_power) × (x.rest < self.now.level.words)) }
+        requires { (q < most_positions) × (w < self.now.arena.now.level.words) × (c < self.now.arena.now.level.actions) }
+        ensures choice { result ≡ choice_for self.now.arena.now q w c }
+        ensures small { IfSome result (λ x. (x.end < most_power) × (x.rest < self.now.arena.now.level.words)) }
     {
-        let joined = w * self.level.actions + c;
-        let action = joined / self.level.words;
-        let rest = joined % self.level.words;
-        if self.level.odd {
-            return Some(self.moves_from(action, rest, q));
+        let arena = self.arena;
+        let joined = w * arena.level.actions + c;
+        let action = joined / arena.level.words;
+        let rest = joined % arena.level.words;
+        if arena.level.odd {
+            return Some(arena.moves_from(action, rest, q));
         }
-        let reached = usize::from(target(self.grid, q, action)?);
-        if !safe_at(self.positions, reached) {
+        let reached = usize::from(target(arena.grid, q, action)?);
+        if !safe_at(arena.positions, reached) {
             return None;
         }
-        Some(self.moves_from(action, rest, reached))
+        Some(arena.moves_from(action, rest, reached))
     }
 
     // Does the environment's move on this line spoil the choice?
     #[tactic(auto, unfolding(crate::specs::code::Walks::outcome_at, crate::specs::code::Walks::outcome_by, theory::specs::Delay::with_word, theory::specs::Rounds::bad, sheet::specs::code::Arrays::to_at))]
     fn spoils(&self, fallen: &Fallen, x: Choice, line: usize) -> bool
-        requires { (self.now.level.words ≤ most_power) × (x.rest < self.now.level.words) × (line < most_power) }
-        ensures { result ≡ bad (has_fallen fallen.now) (outcome_on self.now x line) }
+        requires { (x.rest < self.now.arena.now.level.words) × (line < most_power) }
+        ensures { result ≡ bad (has_fallen fallen.now) (outcome_on self.now.arena.now x line) }
     {
-        let to = usize::from(byte(self.moves, 2 * line + 1));
-        if !self.level.odd {
-            return fallen.has(to * self.level.words + x.rest);
+        let arena = self.arena;
+        let to = usize::from(byte(arena.moves, 2 * line + 1));
+        if !arena.level.odd {
+            return fallen.has(to * arena.level.words + x.rest);
         }
-        if !safe_at(self.positions, to) {
+        if !safe_at(arena.positions, to) {
             return true;
         }
-        let Some(reached) = target(self.grid, to, x.action) else {
+        let Some(reached) = target(arena.grid, to, x.action) else {
             return true;
         };
-        fallen.has(usize::from(reached) * self.level.words + x.rest)
+        fallen.has(usize::from(reached) * arena.level.words + x.rest)
     }
 
     // The last of a choice's lines that spoils it, looked for from the end: it is "nearly always a late line of its position's yard
     // moves" (W-203).
     #[tactic(auto, using(crate::proofs::WalkLaws::searching))]
     fn last_spoiling(&self, fallen: &Fallen, x: Choice) -> Option<usize>
-        requires { (self.now.level.words ≤ most_power) × (x.rest < self.now.level.words) × (x.end < most_power) }
-        ensures { result ≡ last_below self.now fallen.now x x.end }
+        requires { (x.rest < self.now.arena.now.level.words) × (x.end < most_power) }
+        ensures { result ≡ last_below self.now.arena.now fallen.now x x.end }
     {
         for line in (x.first..x.end).rev() {
             if self.spoils(fallen, x, line) {
@@ -101,10 +106,10 @@ impl Arena<'_> {
     // Is action c spoilt at node k, which exists?
     #[tactic(auto, using(crate::proofs::WalkLaws::walking))]
     fn spoilt_at(&self, fallen: &Fallen, k: usize, c: usize) -> bool
-        requires { (IsSized self.now) × (k < self.now.level.nodes) × (c < self.now.level.actions) }
-        ensures { result ≡ spoilt_at self.now fallen.now k c }
+        requires { (k < self.now.arena.now.level.nodes) × (c < self.now.arena.now.level.actions) }
+        ensures { result ≡ spoilt_at self.now.arena.now fallen.now k c }
     {
-        let level = self.level;
+        let level = self.arena.level;
         let Some(x) = self.choose(k / level.words, k % level.words, c) else {
             return true;
         };
@@ -115,12 +120,13 @@ impl Arena<'_> {
     // leaves for the next action at the first spoiling one that it meets; an action whose lines all pass ends the walk.
     #[tactic(auto, using(crate::proofs::WalkLaws::walks))]
     fn all_spoilt_at(&self, fallen: &Fallen, k: usize) -> bool
-        requires { (IsSized self.now) × (k < self.now.level.nodes) }
-        ensures { result ≡ all_spoilt_at self.now fallen.now k }
+        requires { k < self.now.arena.now.level.nodes }
+        ensures { result ≡ all_spoilt_at self.now.arena.now fallen.now k }
     {
-        let q = k / self.level.words;
-        let w = k % self.level.words;
-        'actions: for c in 0..self.level.actions {
+        let level = self.arena.level;
+        let q = k / level.words;
+        let w = k % level.words;
+        'actions: for c in 0..level.actions {
             let Some(x) = self.choose(q, w, c) else {
                 continue 'actions;
             };
@@ -133,7 +139,9 @@ impl Arena<'_> {
         }
         true
     }
+}
 
+impl Arena<'_> {
     // Is action c spoilt at node k? Where there is no such node or action, no.
     #[tactic(auto, unfolding(theory::specs::Fold::both))]
     pub fn spoilt(&self, fallen: &Fallen, k: usize, c: usize) -> bool
@@ -141,7 +149,7 @@ impl Arena<'_> {
     {
         self.level.is_node(self.positions.len(), k)
             && c < self.level.actions
-            && self.spoilt_at(fallen, k, c)
+            && SizedArena { arena: self }.spoilt_at(fallen, k, c)
     }
 
     // Is every action spoilt at node k? A node that does not exist: no.
@@ -149,6 +157,7 @@ impl Arena<'_> {
     pub fn all_spoilt(&self, fallen: &Fallen, k: usize) -> bool
         ensures { result ≡ all_spoilt self.now fallen.now k }
     {
-        self.level.is_node(self.positions.len(), k) && self.all_spoilt_at(fallen, k)
+        self.level.is_node(self.positions.len(), k)
+            && SizedArena { arena: self }.all_spoilt_at(fallen, k)
     }
 }

@@ -11,6 +11,7 @@ use Rattle.solver.specs.code.Spread as spread
 use Rattle.solver.specs.code.Sweep as sweep
 use Rattle.solver.specs.code.Chains.{head_of}
 use Rattle.solver.specs.code.Work.{Work, work, marks_to}
+use Rattle.solver.specs.code.First.{Placed}
 use Rattle.solver.specs.code.Seen.{Seen}
 use Rattle.solver.specs.code.Working.{Workable, Levelable}
 use Rattle.solver.specs.code.Search.{Searchable, Fillable}
@@ -35,6 +36,10 @@ spotted s = spread.spot s.n s.words s.younger s.actions s.word s.rest s.action
 
 abbrev pub indexed : Index → sweep.Index
 indexed x = sweep.index x.moves.now x.reaching.now.heads x.reaching.now.links x.leading.now.heads x.leading.now.links
+
+-- the nodes below one are as round 1 leaves them
+abbrev pub PlacedTo : Arena → ℕ → ℕ → Worklist → Type 0
+PlacedTo a full k w = Placed a.positions.now a.level full k (listed w)
 
 -- a spot's action spoilt at these nodes
 abbrev pub Marked : Worklist → Spot → List ℕ → Worklist → Type 0

@@ -2,8 +2,8 @@
 use Rattle.judge.proofs.JudgeLaws.{node_laws}
 use Rattle.judge.proofs.judging.first_bad_node.Goals as goal
 
-pub first_unsound-requires : goal.first_unsound-requires
-first_unsound-requires c = search node_laws
+pub invariant_of-first_unsound : goal.invariant_of-first_unsound
+invariant_of-first_unsound c = record { fits = search node_laws }
 
 pub returns : goal.returns
 returns c = search node_laws

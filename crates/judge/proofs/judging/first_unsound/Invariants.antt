@@ -6,4 +6,4 @@ use Rattle.judge.specs.code.Tests.{whole_at}
 use Rattle.judge.proofs.judging.first_unsound.Given as goal
 
 abbrev pub invariant-loop-k : goal.invariant-loop-k
-invariant-loop-k l = all_below (whole_at (arena_in l.arena) l.marks l.masks) l.k ≡ true
+invariant-loop-k l = all_below (whole_at (arena_in l.sized.arena.now) l.marks l.masks) l.k ≡ true

@@ -4,4 +4,4 @@ use Rattle.std.proofs.Common.{arith}
 use Rattle.region.proofs.masks.all_masks.Goals as goal
 
 pub returns : goal.returns
-returns c = masks_done _ _ _ _ _ _ _ _ c.loop-k.k c.requires.0 c.loop-k.invariant c.requires.1 (omega arith) (omega arith)
+returns c = masks_done _ _ _ _ _ _ _ _ c.loop-k.k c.args.sized.now.fits c.loop-k.invariant c.requires (omega arith) (omega arith)

@@ -6,4 +6,4 @@ use Rattle.region.specs.code.Kept.{mask_in}
 use Rattle.region.proofs.masks.all_masks.Given as goal
 
 abbrev pub invariant-loop-k : goal.invariant-loop-k
-invariant-loop-k l = l.masks ≡ filled (mask_in (arena_in l.arena) l.fallen.last l.fallen.marks.now) l.k l.initial.masks
+invariant-loop-k l = l.masks ≡ filled (mask_in (arena_in l.sized.arena.now) l.fallen.last l.fallen.marks.now) l.k l.initial.masks

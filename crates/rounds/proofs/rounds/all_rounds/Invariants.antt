@@ -9,9 +9,9 @@ use Rattle.rounds.proofs.rounds.all_rounds.Given as goal
 
 abbrev pub invariant-rounds : goal.invariant-rounds
 invariant-rounds l = (1 ≤ l.n)
-    × (l.n + standing l.ranks l.arena.level.nodes ≤ l.arena.level.nodes + 1)
-    × (l.ranks ≡ ranks_after (arena_in l.arena) l.n)
+    × (l.n + standing l.ranks l.sized.arena.now.level.nodes ≤ l.sized.arena.now.level.nodes + 1)
+    × (l.ranks ≡ ranks_after (arena_in l.sized.arena.now) l.n)
     × (l.n ≤ last_round l.ranks)
 
 abbrev pub decreases-rounds : goal.decreases-rounds
-decreases-rounds l = standing l.ranks l.arena.level.nodes
+decreases-rounds l = standing l.ranks l.sized.arena.now.level.nodes

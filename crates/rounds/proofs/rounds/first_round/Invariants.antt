@@ -5,4 +5,4 @@ use Rattle.theory.proofs.Filling.{filled}
 use Rattle.rounds.proofs.rounds.first_round.Given as goal
 
 abbrev pub invariant-loop-k : goal.invariant-loop-k
-invariant-loop-k l = l.ranks ≡ filled (first_rank l.arena.positions.now l.arena.level) l.k l.initial.ranks
+invariant-loop-k l = l.ranks ≡ filled (first_rank l.sized.arena.now.positions.now l.sized.arena.now.level) l.k l.initial.ranks

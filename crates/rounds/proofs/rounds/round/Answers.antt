@@ -11,12 +11,12 @@ loop-k-preserved c =
     let r = c.falls_now.ensures in
     elim c.if-falls_now.branch [
       | then-falls_now w ↦ (
-        w.ranks-is ∙ round_fell _ _ _ _ i.2 i.3 v.0 r w.if-falls_now.true (omega arith),
-        w.any-is ∙ any_fell _ _ _ _ i.2 i.3 v.0 r w.if-falls_now.true,
+        w.ranks-is ∙ round_fell _ _ _ _ i.1 i.2 v.0 r w.if-falls_now.true (omega arith),
+        w.any-is ∙ any_fell _ _ _ _ i.1 i.2 v.0 r w.if-falls_now.true,
       )
       | else-falls_now w ↦ (
-        w.ranks-is ∙ round_kept _ _ _ _ i.2 i.3 v.0 r w.if-falls_now.false (omega arith),
-        w.any-is ∙ any_kept _ _ _ _ i.2 i.3 v.0 r v.1 w.if-falls_now.false,
+        w.ranks-is ∙ round_kept _ _ _ _ i.1 i.2 v.0 r w.if-falls_now.false (omega arith),
+        w.any-is ∙ any_kept _ _ _ _ i.1 i.2 v.0 r v.1 w.if-falls_now.false,
       )
     ]
 

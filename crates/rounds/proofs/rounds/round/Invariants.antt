@@ -8,5 +8,5 @@ use Rattle.theory.proofs.Filling.{filled}
 use Rattle.rounds.proofs.rounds.round.Given as goal
 
 abbrev pub invariant-loop-k : goal.invariant-loop-k
-invariant-loop-k l = (l.ranks ≡ filled (rank_in (arena_in l.arena) l.n l.initial.ranks) l.k l.initial.ranks)
-    × (l.any ≡ any_below (falls_next (arena_in l.arena) l.n l.initial.ranks) l.k)
+invariant-loop-k l = (l.ranks ≡ filled (rank_in (arena_in l.sized.arena.now) l.n l.initial.ranks) l.k l.initial.ranks)
+    × (l.any ≡ any_below (falls_next (arena_in l.sized.arena.now) l.n l.initial.ranks) l.k)

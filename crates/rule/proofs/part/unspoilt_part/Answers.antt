@@ -13,23 +13,23 @@ loop-c-init c = mask_first _
 pub overflow_add-part : goal.overflow_add-part
 overflow_add-part c =
     let h = c.loop-c-test.true in
-    let a = c.requires.0.few_actions in
+    let a = c.args.sized.now.fits.few_actions in
     mask_fits _ c.loop-c.c c.loop-c.invariant (omega arith) (bit_shifted c.loop-c.c h a (omega arith)) h a
 
 pub loop-c-preserved : goal.loop-c-preserved
 loop-c-preserved c =
     let l = c.loop-c in
-    let i = c.requires in
+    let s = c.args.sized.now.fits in
     let h = c.loop-c-test.true in
     elim c.if-left-eq1.branch [
       | then-left-eq1+then-not-spoilt w ↦
-          mask_set _ l.c l.invariant w.part-is (bit_shifted l.c h i.0.few_actions (omega arith))
-          (bit_stays _ _ _ _ _ _ _ _ l.c i.0 i.1 h w.if-left-eq1.true w.spoilt.ensures ∙ ap not w.if-not-spoilt.true)
+          mask_set _ l.c l.invariant w.part-is (bit_shifted l.c h s.few_actions (omega arith))
+          (bit_stays _ _ _ _ _ _ _ _ l.c s c.requires h w.if-left-eq1.true w.spoilt.ensures ∙ ap not w.if-not-spoilt.true)
       | else-left-eq1 w ↦
           elim w.else-left-eq1.branch [
             | else-left-eq1-via-then-left-eq1+else-not-spoilt v ↦
                 mask_kept _ l.c l.invariant w.part-is
-                (bit_stays _ _ _ _ _ _ _ _ l.c i.0 i.1 h v.if-left-eq1.true v.spoilt.ensures ∙ ap not v.if-not-spoilt.false)
+                (bit_stays _ _ _ _ _ _ _ _ l.c s c.requires h v.if-left-eq1.true v.spoilt.ensures ∙ ap not v.if-not-spoilt.false)
             | else-left-eq1-via-else-left-eq1 v ↦
                 mask_kept _ l.c l.invariant w.part-is (bit_out _ _ _ _ _ _ _ _ l.c v.if-left-eq1.false)
           ]

@@ -5,4 +5,4 @@ use Rattle.rule.specs.code.Parts.{stays_at}
 use Rattle.rule.proofs.part.unspoilt_part.Given as goal
 
 abbrev pub invariant-loop-c : goal.invariant-loop-c
-invariant-loop-c l = l.part ≡ mask_below (stays_at l.arena l.marks l.k l.mask) l.c
+invariant-loop-c l = l.part ≡ mask_below (stays_at l.sized.arena.now l.marks l.k l.mask) l.c

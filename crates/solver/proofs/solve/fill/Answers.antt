@@ -30,11 +30,15 @@ slice_bounds-mask_level-end-2 c = let s = c.search-stop.ensures in
     let l = c.level_at-level.ensures in
     sym (masks_front _ _ _ _ _ _ _ _ _ _ can _ _ _ s.0 s.1 _ l)
 
+pub invariant_of-mask_level : goal.invariant_of-mask_level
+invariant_of-mask_level c = let s = c.search-stop.ensures in
+    let can = bodies_can _ _ _ _ _ _ _ _ c.requires.1 _ c.requires.0 _ c.link_both.ensures in
+    record { fits = sized_stop _ _ _ _ _ _ _ _ _ _ can _ _ _ s.0 s.1 _ c.level_at-level.ensures }
+
 pub mask_level-requires : goal.mask_level-requires
 mask_level-requires c = let s = c.search-stop.ensures in
     let can = bodies_can _ _ _ _ _ _ _ _ c.requires.1 _ c.requires.0 _ c.link_both.ensures in
     let l = c.level_at-level.ensures in (
-      sized_stop _ _ _ _ _ _ _ _ _ _ can _ _ _ s.0 s.1 _ l,
       most_stop _ _ _ _ _ _ _ _ _ _ can _ _ _ s.0 s.1 _ l,
       masks_front _ _ _ _ _ _ _ _ _ _ can _ _ _ s.0 s.1 _ l,
       masks_ready _ _ _ _ _ _ _ _ _ _ can _ _ _ s.0 s.1 _ l,

@@ -5,10 +5,13 @@ use Rattle.solver.proofs.WorkLaws.{start_rounds, round_queue, round_few, round_m
 use Rattle.solver.proofs.work.all_rounds.Goals as goal
 
 pub first-requires : goal.first-requires
-first-requires c = let p = c.requires in (p.0.sized, p.1, p.2)
+first-requires c = let p = c.requires in (p.1, p.2)
+
+pub invariant_of-sized : goal.invariant_of-sized
+invariant_of-sized c = record { fits = c.requires.0.sized }
 
 pub block-requires : goal.block-requires
-block-requires c = (c.requires.0.sized, c.requires.0.fits)
+block-requires c = c.requires.0.fits
 
 pub rounds-init : goal.rounds-init
 rounds-init c = let p = c.requires in (

@@ -7,6 +7,6 @@ use Rattle.solver.proofs.mark.Worklist.block.Given as goal
 
 abbrev pub invariant-loop-b : goal.invariant-loop-b
 invariant-loop-b l =
-    let rows = length l.arena.positions.now * l.arena.level.actions in
+    let rows = length l.sized.arena.now.positions.now * l.sized.arena.now.level.actions in
     Same l.initial.self l.self
-    × (blocks_to (arena_in l.arena) l.younger (listed l.initial.self) 0 rows ≡ blocks_to (arena_in l.arena) l.younger (listed l.self) l.b (rows - l.b))
+    × (blocks_to (arena_in l.sized.arena.now) l.younger (listed l.initial.self) 0 rows ≡ blocks_to (arena_in l.sized.arena.now) l.younger (listed l.self) l.b (rows - l.b))
