@@ -6,8 +6,6 @@ use crate::level::Level;
 use sheet::limits::{INDEX, ROW, ROWS};
 
 // positions: the P body. grid: the targets that the C body means. moves: the U body. firsts: the index of its first lines.
-// That the level is small enough, private functions ask by name, `IsSized`: a struct around this one with that as its ghost field was no
-// plainer, since every path then went through it (`board.arena.level`).
 #[derive(Clone, Copy)]
 pub struct Arena<'a> {
     pub positions: &'a [u8],
