@@ -123,7 +123,8 @@ impl Pruning<'_, '_> {
         }
     }
 
-    // All nodes before node j.
+    // All nodes before node j. Not inlined either, for the same reason.
+    #[inline(never)]
     fn strike_before(&mut self, j: usize)
         ensures { Goes self.old self.new }
     {
