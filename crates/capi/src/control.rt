@@ -1,4 +1,5 @@
-// Opening, observing and acting for C and Rust callers, who keep the state as bytes. Every function takes any bytes.
+// Opening, observing and acting for C and Rust callers, who keep the state as bytes. Every function takes any bytes, and takes its
+// answer apart by itself, here and in the other files: each writes other places, and closures that write them would be no plainer.
 ghost use Rattle.std.specs.Prelude.{◌≡◌};
 ghost use Rattle.controller.specs.Controller.{open_answer};
 ghost use Rattle.packet.specs.Packet.{packet_reply};
@@ -26,8 +27,9 @@ pub extern "C" fn lq_open(sheet: &[u8], state: &mut [u8; STATE_BYTES]) -> u8
     }
 }
 
+// The slot's two bytes alone are written.
 #[unsafe(no_mangle)]
-#[tactic(auto, unfolding(crate::specs::Exported::by_answer))]
+#[tactic(auto, using(crate::proofs::ExportLaws::index_within), unfolding(crate::specs::Exported::by_answer))]
 pub extern "C" fn lq_observe(
     sheet: &[u8],
     state: &mut [u8; STATE_BYTES],

@@ -15,7 +15,7 @@ use notice::posting::{Posting, post};
 use sheet::form::placed;
 use table::reading::read;
 
-// What stands for each verdict of judging (LQ_SOUND, LQ_BAD_WORD, LQ_BAD_PAIR).
+// What stands for each verdict of judging in C (LQ_SOUND, LQ_BAD_WORD, LQ_BAD_PAIR).
 const SOUND: u8 = 0;
 
 const BAD_WORD: u8 = 1;
@@ -76,6 +76,7 @@ pub extern "C" fn lq_make(
     }
 }
 
+// The place comes from the contents again: reading promises the masks, and not where they are.
 #[unsafe(no_mangle)]
 #[tactic(auto, unfolding(crate::specs::Exported::by_answer))]
 pub extern "C" fn lq_masks(sheet: &[u8], place: &mut [usize; 2]) -> u8

@@ -27,6 +27,7 @@ use Rattle.sheet.specs.Limits.{most_delay}
 use Rattle.sheet.specs.Form.{part_at}
 use Rattle.sheet.specs.Refusals.{number_of, answer_of, answer_by}
 use Rattle.sheet.specs.declared.refusal.Refusal.{Refusal}
+use Rattle.sheet.proofs.RefusalLaws.{answer_accepted, by_accepted}
 use Rattle.table.specs.TableSheet.{TableSheet, says, table_at, table_answer}
 use Rattle.table.proofs.Accepted.{table_accepted}
 use Rattle.table.specs.declared.reading.TableLayout.{TableLayout}
@@ -37,7 +38,7 @@ use Rattle.controller.specs.code.Ages.{age_with}
 use Rattle.controller.specs.declared.calls.TurnTaken.{TurnTaken}
 use Rattle.state.specs.declared.state.Slot.{Slot}
 use Rattle.state.specs.declared.state.State.{State}
-use Rattle.controller.proofs.Answers.{age_accepted, observed_at, observe_20, observe_aged, act_20, act_15, act_13, act_14, act_answers}
+use Rattle.controller.proofs.AnswerLaws.{age_accepted, observed_at, observe_20, observe_aged, act_20, act_15, act_13, act_14, act_answers}
 
 -- what passing check 20 says of the turn
 
@@ -56,7 +57,7 @@ module _ (l : TableLayout) (s : State) (b : Bool) (e : b ≡ state_ok (says l []
 
 module _ (highest d n k p : ℕ) (y : Result ℕ Refusal) (ey : answer_of y ≡ age_with highest d n k p) (age : ℕ) (ay : y ≡ Ok age) where
   is_age : (age ≡ n - k) × (age ≤ d)
-  is_age = age_accepted highest d n k p age (sym ey ∙ ap answer_of ay)
+  is_age = age_accepted highest d n k p age (answer_accepted y _ ey age ay)
 
   pub age_small : d ≤ most_delay → age < slots
   age_small short = omega (arith, is_age.1)
@@ -143,6 +144,16 @@ pub missing : {A : Type 0} (o : Option A) (why e : Refusal) → Err e ≡ ok_or 
 missing None why e q = (refl, cc)
 missing (Some x) why e q = (cc, cc)
 
+-- and where none was named, there is a value
+found : (o : Option ℕ) (why : Refusal) (p : ℕ) → ok_or o why ≡ Ok p → o ≡ Some p
+found None why p q = absurd cc
+found (Some x) why p q = cc
+
+-- as the code asks a slot
+pub slot_found : (w : Slot) (o : Option ℕ) (why : Refusal) (r : Result ℕ Refusal) (p : ℕ) → o ≡ observed_in w → r ≡ ok_or o why → r ≡ Ok p
+    → observed_in w ≡ Some p
+slot_found w o why r p eo er e = sym eo ∙ found o why p (sym er ∙ e)
+
 unobserved : (w : Slot) → observed_in w ≡ None → w.known ≡ false
 unfolding observed_in
 unobserved w e = ⊎_elim
@@ -226,7 +237,7 @@ module _ (l : TableLayout) (f m : List ℕ) (s : State) (b : Bool) (e : b ≡ st
               ap accepted q
               ∙ sym (act_answers (says l f m) s good t needed a (action_is ∙ lowest_acts l.actions n z ∙ ap some (sym c ∙ sym ea)))
 
-pub ruleset act_laws = (rules, turn_fits, turn_left, needed_slot, acts_20, acts_15, acts_early, acts_13, acts_14, acts_late)
+pub ruleset act_laws = (rules, turn_fits, turn_left, needed_slot, missing, slot_found, acts_20, acts_15, acts_early, acts_13, acts_14, acts_late)
 
 -- a readable sheet
 
@@ -249,7 +260,7 @@ observe_any l f m s k p = refl
 
 module _ (t : List ℕ) (y : Result TableLayout Refusal) (ey : answer_by (table_at t) y ≡ table_answer t) (l : TableLayout) (el : y ≡ Ok l) where
   pub readable : table_answer t ≡ accepted (table_at t l)
-  readable = sym ey ∙ ap (answer_by (table_at t)) el
+  readable = by_accepted (table_at t) y _ ey l el
 
   pub read_usable : Usable (table_at t l)
   read_usable = usable t (table_at t l) readable
@@ -261,3 +272,5 @@ module _ (t : List ℕ) (y : Result TableLayout Refusal) (ey : answer_by (table_
   unfolding observe_answer on_accepted
   observes_read s z k p e =
       observe_any l (part_at t l.flags) (part_at t l.masks) s k p ∙ ap (λ s. observe_with (table_at t l) s k p) e ∙ rw readable
+
+pub ruleset reading = (read_usable, read_short, observes_read)

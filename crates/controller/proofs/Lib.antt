@@ -1,6 +1,6 @@
 -- The theorems over specs/.
 pub mod PlayLaws
-pub mod Answers
+pub mod AnswerLaws
 pub mod ActionLaws
 pub mod CallLaws
 pub mod Progress

@@ -31,7 +31,7 @@ use Rattle.controller.specs.declared.calls.TurnTaken.{TurnTaken}
 use Rattle.state.specs.declared.state.Slot.{Slot}
 use Rattle.state.specs.declared.state.State.{State}
 use Rattle.controller.proofs.PlayLaws.{word_actions, action_small, further, exact_further, worked_further}
-use Rattle.controller.proofs.Answers.{observe_16, observe_17, observe_18, observe_accepts, act_15, act_13, act_answers}
+use Rattle.controller.proofs.AnswerLaws.{observe_16, observe_17, observe_18, observe_accepts, act_15, act_13, act_answers}
 
 -- a slot that is known exactly if b, and then at position p
 
@@ -156,7 +156,7 @@ module _ (G : Game) (legal : Legal G) (x : TableSheet) (sound : Sound G x) (w : 
     report_accepted : (next : State) → ((refusal : ℕ → Response) (rest : Response) → right_report x (turn_of s) k p refusal rest ≡ rest)
         → Follows (heard_from s k next) → ReportRight s k p (accepted next)
 
-  -- the same of a packet's records from a place on
+  -- a packet's answer is the right one, for its records from a place on
   data EachRight (s : Progress) (place : ℕ) (os : List Observation) : Heard → Type 0 where
     each_refused : (n k : ℕ) → right_reports x (turn_of s) place os ≡ refuses_at n k → EachRight s place os (refused_at n k)
     each_accepted : (next : State) → right_reports x (turn_of s) place os ≡ accepts

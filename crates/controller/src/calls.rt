@@ -19,19 +19,20 @@ use table::reading::{TableLayout, read};
 
 // The record of a report: the position at an index.
 #[repr(C)]
-#[derive(Clone, Copy)]
+#[derive(Clone, Copy, Debug, PartialEq, Eq)]
 pub struct Observation {
     pub index: usize,
     pub position: u8,
 }
 
 // What acting gives: the action, and the state after it.
-#[derive(Clone, Copy)]
+#[derive(Clone, Copy, Debug, PartialEq, Eq)]
 pub struct TurnTaken {
     pub action: u8,
     pub state: State,
 }
 
+// A turn is taken with this action.
 fn take_turn(delay: u8, s: State, action: u8) -> TurnTaken
     requires { s.turn < last_turn }
     ensures { result ≡ record { action = action; state = acted_state delay s action } }
@@ -62,7 +63,8 @@ pub fn age_of(l: TableLayout, newest: usize, observation: Observation) -> Result
     Ok(age)
 }
 
-// Observing, after 10 to 12.
+// Observing, after 10 to 12. Layout and state go as two, here and below: they come from two lent areas.
+#[tactic(auto, using(crate::proofs::CallLaws::observe_laws, std::proofs::lemmas::Result::err_from_is_err_and))]
 fn observe_with(l: TableLayout, s: State, observation: Observation) -> Result<State, Refusal>
     requires { l.delay ≤ most_delay }
     ensures { answer_of result ≡ observe_with (says l [] []) s observation.index observation.position }
@@ -83,6 +85,7 @@ fn observe_with(l: TableLayout, s: State, observation: Observation) -> Result<St
 }
 
 // Acting, after 10 to 12.
+#[tactic(auto, using(crate::proofs::CallLaws::act_laws, std::proofs::lemmas::Result::err_from_is_err_and))]
 fn act_with(l: TableLayout, sheet: &[u8], s: State) -> Result<TurnTaken, Refusal>
     requires { Usable (table_at sheet.now l) }
     ensures { answer_of result ≡ act_with (table_at sheet.now l) s }
@@ -117,7 +120,7 @@ pub fn opening(sheet: &[u8]) -> Result<State, Refusal>
 }
 
 // "Hearing a report": a position at an index. The state is decoded after the sheet is read: before it, it would be kept on the stack meanwhile.
-#[tactic(auto, unfolding(crate::specs::Controller::observe_answer, theory::specs::Answer::on_accepted))]
+#[tactic(auto, using(crate::proofs::CallLaws::reading), unfolding(crate::specs::Controller::observe_answer, theory::specs::Answer::on_accepted))]
 pub fn observe(
     sheet: &[u8],
     state: &[u8; STATE_BYTES],
@@ -131,7 +134,7 @@ pub fn observe(
 }
 
 // "Giving the command of turn i", the state's.
-#[tactic(auto, unfolding(crate::specs::Controller::act_answer, theory::specs::Answer::on_accepted))]
+#[tactic(auto, using(crate::proofs::CallLaws::reading), unfolding(crate::specs::Controller::act_answer, theory::specs::Answer::on_accepted))]
 pub fn act(sheet: &[u8], state: &[u8; STATE_BYTES]) -> Result<TurnTaken, Refusal>
     ensures { answer_of result ≡ act_answer sheet.now (decode_state state.now) }
 {

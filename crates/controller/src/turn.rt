@@ -8,6 +8,7 @@ ghost use Rattle.state.specs.State.{most_held};
 ghost use Rattle.controller.specs.Controller.{word_of};
 
 use sheet::form::byte;
+use sheet::size::digit;
 use state::state::HELD;
 use table::reading::TableLayout;
 
@@ -20,32 +21,25 @@ pub(crate) fn least_flagged(w: &[u8]) -> usize
         .unwrap_or(w.len().saturating_sub(1))
 }
 
-// Action i of a word of n actions, the oldest being 0.
+// Action i of a word of n actions, the oldest being 0. It is below their number, so the cast loses nothing.
+#[tactic(auto, using(theory::proofs::Words::digit_lt))]
 pub(crate) fn action_of(actions: u8, n: usize, word: usize, i: usize) -> u8
     requires { 0 < actions }
     ensures { result ≡ digit actions n word i }
 {
-    if n == 0 {
-        return 0;
-    }
-    let base = usize::from(actions);
-    let mut left = word;
-    for _younger in i..n - 1 {
-        left /= base;
-    }
-    (left % base) as u8
+    digit(usize::from(actions), n, word, i) as u8
 }
 
-// The node of a position and the word of the n newest actions, the oldest leading. By index, as the slice from its last entry on reads no
-// plainer.
+// The node of a position and the word of the n newest actions, the oldest leading.
+#[tactic(auto, using(crate::proofs::ActionLaws::node_laws))]
 fn node_of(actions: u8, position: u8, last: [u8; HELD], n: usize) -> usize
     requires { n ≤ most_held }
     ensures { result ≡ position * actions ^ n + word_of actions (take n last) }
 {
     let base = usize::from(actions);
     let mut node = usize::from(position);
-    for k in (0..n).rev() {
-        node = node * base + usize::from(last[k]);
+    for &action in last[..n].iter().rev() {
+        node = node * base + usize::from(action);
     }
     node
 }
@@ -62,7 +56,7 @@ pub(crate) fn mask_at(l: TableLayout, masks: &[u8], position: u8, last: [u8; HEL
     )
 }
 
-// The lowest action in a mask.
+// The lowest action in a mask: 8 at most, so the cast loses nothing.
 pub(crate) fn lowest(mask: u8) -> u8
     ensures { result ≡ count_trailing_zeros 8 mask }
 {

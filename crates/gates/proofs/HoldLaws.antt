@@ -13,7 +13,7 @@ use borrow.Author.Tests.{eq-eqb, ne_eqb, lt-ltb, le-ltb}
 use Rattle.theory.specs.Game.{absent}
 use Rattle.theory.specs.Holding.{or_else, held}
 use Rattle.theory.proofs.Fold.{same?, below?, both_none, both_false, both_true, both_second, length_tabulate, get_d_tabulate}
-use Rattle.theory.proofs.Filling.{filled, filled_none, filled_more, filled_done}
+use Rattle.theory.proofs.Filling.{filled, filled_none, filled_more, filled_rest, filled_done}
 use Rattle.theory.proofs.Holding.{or_else_first, or_else_second}
 use Rattle.sheet.specs.Limits.{most_positions, most_actions}
 use Rattle.sheet.specs.code.Arrays.{absent_mark, unmark, grid_of, target_at}
@@ -56,14 +56,17 @@ row_still actions row n e =
     sym
     (get_d_tabulate (cell_held actions row) most_actions x 0 (rw n at h) ∙ still_cell actions row x e))
 
-pub row_next : (actions : ℕ) (g : List (List ℕ)) (q : ℕ) {r : List ℕ} → r ≡ row_held actions (get_or g q []) → r ≡ row_held_at actions g q
+-- the row that the loop comes to is still the grid's own
+pub row_next : (actions : ℕ) (g : List (List ℕ)) (q : ℕ) {m : List (List ℕ)} {r : List ℕ} → m ≡ filled (row_held_at actions g) q g → r ≡ get_or m q []
+    → row_held actions r ≡ row_held_at actions g q
 unfolding row_held_at
-row_next actions g q e = e
+row_next actions g q e s =
+    ap (row_held actions) (s ∙ ap (λ m. get_or m q []) e ∙ filled_rest (row_held_at actions g) g q q [] (omega arith))
 
-pub grid_done : (actions : ℕ) (g l : List (List ℕ)) (k : ℕ) {m : List (List ℕ)} → m ≡ filled (row_held_at actions g) k l → length l ≡ most_positions
-    → k ≤ most_positions → most_positions ≤ k → m ≡ grid_held actions g
+pub grid_done : (actions : ℕ) (g : List (List ℕ)) (k : ℕ) → length g ≡ most_positions → k ≤ most_positions → most_positions ≤ k
+    → filled (row_held_at actions g) k g ≡ grid_held actions g
 unfolding grid_held
-grid_done actions g l k e n h i = filled_done (row_held_at actions g) l k most_positions e n h i
+grid_done actions g k n h i = filled_done (row_held_at actions g) g k most_positions refl n h i
 
 pub ruleset holding = (rules, filled_none, filled_more, row_next, grid_done)
 

@@ -7,7 +7,8 @@ use sheet::grid::{Grid, grid_of};
 use sheet::limits::{ABSENT, ROW};
 use std::array;
 
-// The target of action x. Where it is missing, and x is one of the game's actions, that of action 0, which may be missing too.
+// The target of action x, by the marks as they stand, since a grid is written here. Where it is missing, and x is one of the game's
+// actions, that of action 0, which may be missing too.
 #[tactic(auto, unfolding(crate::specs::code::Held::cell_held, theory::specs::Fold::both))]
 fn held_cell(row: &[u16; ROW], actions: usize, x: usize) -> u16
     requires { x < most_actions }
@@ -21,6 +22,7 @@ fn held_cell(row: &[u16; ROW], actions: usize, x: usize) -> u16
 }
 
 // A row without a target of action 0 stays as it is; so do the many past the last position.
+#[tactic(auto, using(crate::proofs::HoldLaws::row_still))]
 fn held_row(row: &[u16; ROW], actions: usize) -> [u16; ROW]
     ensures { result ≡ row_held actions row.now }
 {
@@ -31,12 +33,14 @@ fn held_row(row: &[u16; ROW], actions: usize) -> [u16; ROW]
     }
 }
 
+// In place and not by `map`, which takes the grid by value and makes a further one.
+#[tactic(auto, using(crate::proofs::HoldLaws::holding))]
 fn hold(grid: &Grid, actions: usize) -> Grid
     ensures { result ≡ grid_held actions grid.now }
 {
     let mut held = *grid;
-    for (q, row) in held.iter_mut().enumerate() {
-        *row = held_row(&grid[q], actions);
+    for row in &mut held {
+        *row = held_row(row, actions);
     }
     held
 }

@@ -1,7 +1,7 @@
 -- Judging, as the code of src/judging.rt does it. Assumes nothing.
 use Prim.Native.Nat.{ℕ, zero, suc, ◌≤◌, ◌<◌}
 use mathlib.Core.Path.{◌≡◌, refl, sym, ◌∙◌, ap}
-use mathlib.Core.Bool.{Bool, true, false, not}
+use mathlib.Core.Bool.{Bool, true, false}
 use mathlib.Core.List.{List}
 use native.Mathlib.Omega.{arith}
 use lib.Dec.{eqb}
@@ -16,15 +16,16 @@ use Rattle.theory.specs.Table.{Table}
 use Rattle.theory.specs.Rounds.{Arena}
 use Rattle.theory.specs.Judging.{word_ok, node_ok, Ruling, bad_word, bad_node, sound, ruling}
 use Rattle.theory.proofs.Answer.{check_failed}
-use Rattle.theory.proofs.Fold.{both_none, both_false, both_second, either_left, either_second, failed, passed, all_none, all_next, all_done, first_stops, first_ends, first_stopped, first_same, all_same}
+use Rattle.theory.proofs.Fold.{all_none, first_same, all_same}
 use Rattle.sheet.specs.Form.{part_at}
-use Rattle.sheet.specs.Limits.{most_words, most_nodes}
+use Rattle.sheet.specs.Limits.{most_nodes}
 use Rattle.sheet.specs.Bodies.{delay_of}
 use Rattle.reader.specs.code.Laid.{grid_at}
 use Rattle.reader.specs.Reading.{read_answer}
 use Rattle.sheet.specs.Refusals.{number_of, answer_of, answer_by}
+use Rattle.sheet.proofs.RefusalLaws.{by_accepted, by_refused}
 use Rattle.sheet.specs.SheetGame.{game_of}
-use Rattle.sheet.specs.code.Arrays.{firsts_of, view_of, bodies_game}
+use Rattle.sheet.specs.code.Arrays.{firsts_of, view_of}
 use Rattle.sheet.specs.declared.refusal.Refusal.{Refusal}
 use Rattle.reader.specs.declared.reading.Layout.{Layout}
 use Rattle.reader.proofs.Accepted.{carries, few_nodes, arena_nodes, read_accepted, read_refused}
@@ -34,8 +35,7 @@ use Rattle.walk.specs.code.Levels.{arena_of, level_at, level_to}
 use Rattle.walk.specs.code.Nodes.{Sized}
 use Rattle.walk.proofs.LevelLaws.{arena_is}
 use Rattle.walk.proofs.NodeLaws.{node_tested}
-use Rattle.region.specs.code.Flags.{flags_after}
-use Rattle.region.proofs.ReadLaws.{game_read, is_level, sized_read}
+use Rattle.region.proofs.ReadLaws.{view_read, is_level, sized_read}
 use Rattle.table.specs.TableSheet.{table_at, table_answer}
 use Rattle.table.specs.declared.reading.TableLayout.{TableLayout}
 use Rattle.table.proofs.Accepted.{table_accepted}
@@ -48,22 +48,7 @@ use Rattle.judge.proofs.PartLaws.{node_is}
 use Rattle.judge.proofs.WordLaws.{flag_is}
 use Rattle.judge.proofs.Accepted.{agrees, agreed_fits, ruling_is}
 
--- the searches: the first index of which a test does not hold
-
-pub search_stops : (p : ℕ → Bool) (i : ℕ) {n : ℕ} {r : Bool} → i < n → all_below p i ≡ true → r ≡ p i → not r ≡ true
-    → Some i ≡ first_failing p n
-unfolding first_failing
-search_stops p i h a e f =
-    let x = first_stopped p (first_stops p i h a (failed e f)) h in
-    rw x.0 (ap Some x.1)
-
-pub search_ends : (p : ℕ → Bool) (i n : ℕ) → i ≤ n → n ≤ i → all_below p i ≡ true → None ≡ first_failing p n
-unfolding first_failing
-search_ends p i n h g a = rw (all_done p h g a)
-
-pub ruleset searching = (rules, all_none, all_next, search_stops, search_ends)
-
--- what they say
+-- what the searches say: the first index of which a test does not hold
 
 found_at : (b : Bool) {i v : ℕ} → Some v ≡ cond b None (Some i) → (b ≡ false) × (v ≡ i)
 found_at true e = cc
@@ -87,13 +72,6 @@ unfolding first_failing
 failing_same p q zero f = rw (all_none p, all_none q)
 failing_same p q (suc n) f = rw (all_same p q (suc n) f, first_same p q n (λ i h. f i (omega arith)))
 
--- the words' search goes by flags in a buffer
-
-pub wrong_first : (s marks flags : List ℕ) {good : List ℕ} {r : Option ℕ} → good ≡ flags_after s marks (replicate most_words 0)
-    → r ≡ first_failing (flag_stands flags good) (length flags) → r ≡ first_failing (flag_stands flags (good_flags s marks)) (length flags)
-unfolding good_flags
-wrong_first s marks flags e q = q ∙ ap (λ good. first_failing (flag_stands flags good) (length flags)) e
-
 -- a node that exists
 
 pub whole_here : (p : List ℕ) (g : List (List ℕ)) (u f : List ℕ) (l : Level) (marks masks : List ℕ) (k : ℕ) {m r : ℕ} → Sized (length p) l → k < l.nodes
@@ -112,15 +90,11 @@ module _ (s : List ℕ) (l : Layout) (reads : read_answer s ≡ accepted l) (p :
   sized_here = sized_read s (Ok l) (sym reads) l refl p ep v made
 
   module _ (u : List ℕ) (g : List (List ℕ)) (f : List ℕ) (eg : g ≡ grid_at s l) (eu : u ≡ part_at s l.moves) (ef : f ≡ firsts_of u) where
-    game_here : view_of p g u f l.start l.actions ≡ game_of s
-    unfolding bodies_game
-    game_here = rw ef (game_read s (Ok l) (sym reads) l refl p ep g u eg eu)
-
     arena_here_lem : arena_of p g u f v ≡ arena (game_of s) (delay_of s)
     arena_here_lem =
         ap (arena_of p g u f) level_is
         ∙ arena_is p g u f l.start l.actions l.delay
-        ∙ rw (game_here, (carries s l reads).delay)
+        ∙ rw (view_read s (Ok l) (sym reads) l refl p ep g u f eg eu ef, (carries s l reads).delay)
 
     nodes_here : v.nodes ≡ (arena (game_of s) (delay_of s)).nodes
     unfolding arena_of view_of
@@ -132,8 +106,6 @@ module _ (s : List ℕ) (l : Layout) (reads : read_answer s ≡ accepted l) (p :
         e
         ∙ ap (first_failing (whole_at (arena_of p g u f v) marks masks)) nodes_here
         ∙ ap (λ E. first_failing (whole_at E marks masks) (arena (game_of s) (delay_of s)).nodes) arena_here_lem
-
-pub ruleset node_laws = (rules, sized_here, node_search)
 
 -- the ruling, by the results of both searches
 
@@ -206,11 +178,11 @@ module _ (s t : List ℕ) (rd : Result Layout Refusal) (e : answer_of rd ≡ rea
     pub table_refused : (x : Refusal) → y ≡ Err x → refused (number_of x) ≡ judge_answer s t
     unfolding judge_answer on_accepted
     table_refused x f =
-        let z : table_answer t ≡ refused (number_of x) = sym ey ∙ ap (answer_by (table_at t)) f in rw (reads, z)
+        rw (reads, by_refused (table_at t) y _ ey x f)
 
     module _ (x : TableLayout) (b : y ≡ Ok x) {r : Bool} (er : r ≡ layouts_agree l x) where
       readable : table_answer t ≡ accepted (table_at t x)
-      readable = sym ey ∙ ap (answer_by (table_at t)) b
+      readable = by_accepted (table_at t) y _ ey x b
 
       agree_is : layouts_agree l x ≡ sheets_agree s (table_at t x)
       agree_is = agree_layouts s t l x reads
@@ -235,4 +207,4 @@ module _ (s t : List ℕ) (rd : Result Layout Refusal) (e : answer_of rd ≡ rea
         pub judged : (z : Ruling) → z ≡ ruling (game_of s) (delay_of s) (table_with flags masks) → accepted z ≡ judge_answer s t
         judged z q = ap accepted (q ∙ rw (ef, em) refl) ∙ sym (ruling_is s t l (table_at t x) reads readable agreed)
 
-pub ruleset judgings = (rules, game_refused, mismatch)
+pub ruleset judgings = (rules, game_refused, mismatch, judgeable, judged)

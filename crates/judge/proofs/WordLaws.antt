@@ -16,14 +16,12 @@ use Rattle.theory.proofs.Fold.{same_test, both_true, both_right, not_not, length
 use Rattle.theory.proofs.Buffer.{over_front}
 use Rattle.theory.proofs.Tables.{good_sided}
 use Rattle.sheet.specs.Limits.{most_words}
-use Rattle.sheet.specs.Bodies.{action_count, delay_of}
+use Rattle.sheet.specs.Bodies.{delay_of}
 use Rattle.sheet.specs.SheetGame.{game_of}
 use Rattle.reader.specs.declared.reading.Layout.{Layout}
-use Rattle.reader.proofs.Accepted.{read_is, ranges}
 use Rattle.reader.proofs.Legality.{legal_game}
-use Rattle.sheet.proofs.SizeLaws.{few_first_words}
 use Rattle.region.specs.code.Flags.{flag_with, flags_after}
-use Rattle.region.proofs.FlagLaws.{words_counted}
+use Rattle.region.proofs.FlagLaws.{words_counted, few_words}
 use Rattle.rule.specs.code.Parts.{mark_for, mark_at, Marked}
 use Rattle.judge.specs.code.Tests.{flag_stands, good_flags}
 use Rattle.judge.specs.code.Judgeable.{table_with, Judgeable}
@@ -52,17 +50,11 @@ module _ (G : Game) (legal : Legal G) (d : ℕ) (T : Table) (fits : TableFits G 
       rw (e, not_not (eqb (get_or T.flags v 0) 0), flag_test (good_with G d marks v), good_same v h)
 
 module _ (s : List ℕ) (l : Layout) (flags masks : List ℕ) (j : Judgeable s l flags masks) (marks : List ℕ) (marked : Marked masks marks) where
-  few_words : initial_words (game_of s) (delay_of s) ≤ most_words
-  unfolding initial_words game_of
-  few_words =
-      let r = ranges s (read_is s l j.reads).0 in
-      few_first_words (action_count s) (delay_of s) r.few_actions r.short_delay
-
   pub flag_in : (b : List ℕ) (v : ℕ) → most_words ≤ length b → v < initial_words (game_of s) (delay_of s)
       → get_or (flags_after s marks b) v 0 ≡ flag_by (good_with (game_of s) (delay_of s) marks) v
   unfolding flags_after flag_with
   flag_in b v room h =
-      let n = words_counted s l (length b) j.reads (omega (arith, few_words)) in
+      let n = words_counted s l (length b) j.reads (omega (arith, few_words s l j.reads)) in
       over_front _ b v (rw (n, length_tabulate (flag_by (good_with (game_of s) (delay_of s) marks)) 0 (initial_words (game_of s) (delay_of s))) h)
       ∙ rw n (get_d_tabulate (flag_by (good_with (game_of s) (delay_of s) marks)) (initial_words (game_of s) (delay_of s)) v 0 h)
 

@@ -12,20 +12,17 @@ ghost use Rattle.judge.specs.Judging.{judge_answer, ruling_of};
 ghost use Rattle.judge.specs.code.Tests.{whole_at, flag_stands, good_flags, first_failing};
 ghost use Rattle.judge.specs.code.Judgeable.{layouts_agree, Judgeable, table_with};
 
-use reader::arrays::grid_at;
 use reader::reading::{Layout, read};
+use region::arrays::GameArrays;
 use region::words::initial_flags;
 use rule::part::{allowed_part, fill_marks};
 use sheet::form::{byte, part};
 use sheet::limits::{MOST_NODES, MOST_WORDS};
-use sheet::moves::first_lines;
 use sheet::refusal::Refusal;
 use table::reading::{TableLayout, mask_of, read as read_table};
-use walk::arena::Arena;
-use walk::level::level_at;
 use walk::sized::SizedArena;
 
-// The number of the first offending word in W, or of the first offending node.
+// Yes, or the number of the first offending word in W or of the first offending node. A no is a ruling and no error: refusals are.
 #[derive(Clone, Copy, Debug, PartialEq, Eq)]
 pub enum Judgement {
     Sound,
@@ -33,7 +30,7 @@ pub enum Judgement {
     BadNode(usize),
 }
 
-// Check 21.
+// Check 21, field by field, as the two layouts are different types.
 #[tactic(auto, unfolding(crate::specs::code::Judgeable::layouts_agree, theory::specs::Fold::both))]
 pub fn layouts_agree(l: Layout, x: TableLayout) -> bool
     ensures { result ≡ layouts_agree l x }
@@ -44,7 +41,7 @@ pub fn layouts_agree(l: Layout, x: TableLayout) -> bool
         && usize::from(x.highest) + 1 == l.positions.size
 }
 
-// Has word v no flag, or is it good?
+// Has word v no flag, or is it good? Flags are bytes of 0 and 1, as the W body has them.
 #[tactic(auto, unfolding(crate::specs::code::Tests::flag_stands, theory::specs::Fold::either))]
 fn flag_stands(flags: &[u8], good: &[u8], v: usize) -> bool
     ensures { result ≡ flag_stands flags.now good.now v }
@@ -53,20 +50,14 @@ fn flag_stands(flags: &[u8], good: &[u8], v: usize) -> bool
 }
 
 // The first word with a flag that is not good.
-#[tactic(auto, using(crate::proofs::JudgeLaws::searching))]
 fn first_wrong(flags: &[u8], good: &[u8]) -> Option<usize>
     ensures { result ≡ first_failing (flag_stands flags.now good.now) (length flags.now) }
 {
-    // not `position` over both slices together, which would end with the shorter
-    for v in 0..flags.len() {
-        if !flag_stands(flags, good, v) {
-            return Some(v);
-        }
-    }
-    None
+    (0..flags.len()).find(|&v| !flag_stands(flags, good, v))
 }
 
-// The same of a sheet's words by these marks.
+// The first word of a sheet with a flag that is not good by these marks.
+#[tactic(auto, unfolding(crate::specs::code::Tests::good_flags))]
 fn first_bad_word(sheet: &[u8], flags: &[u8], marks: &[u16]) -> Option<usize>
     ensures { result ≡ first_failing (flag_stands flags.now (good_flags sheet.now marks.now)) (length flags.now) }
 {
@@ -86,21 +77,13 @@ fn is_whole(sized: &SizedArena, masks: &[u8], marks: &[u16], k: usize) -> bool
 }
 
 // The first node whose mask may not stand whole.
-#[tactic(auto, using(crate::proofs::JudgeLaws::searching))]
 fn first_unsound(sized: &SizedArena, masks: &[u8], marks: &[u16]) -> Option<usize>
     ensures { result ≡ first_failing (whole_at (arena_in sized.now.arena.now) marks.now masks.now) sized.now.arena.now.level.nodes }
 {
-    // not `find`, whose closure must take every number: `is_whole` takes nodes alone
-    for k in 0..sized.arena.level.nodes {
-        if !is_whole(sized, masks, marks, k) {
-            return Some(k);
-        }
-    }
-    None
+    (0..sized.arena.level.nodes).find(|&k| !is_whole(sized, masks, marks, k))
 }
 
-// The same of a sheet that was read.
-#[tactic(auto, using(crate::proofs::JudgeLaws::node_laws))]
+// The first such node of a sheet that was read.
 fn first_bad_node(sheet: &[u8], l: Layout, masks: &[u8], marks: &[u16]) -> Option<usize>
     requires { read_answer sheet.now ≡ accepted l }
     ensures { result
@@ -108,22 +91,12 @@ fn first_bad_node(sheet: &[u8], l: Layout, masks: &[u8], marks: &[u16]) -> Optio
         (whole_at (arena (game_of sheet.now) (delay_of sheet.now)) marks.now masks.now)
         (arena (game_of sheet.now) (delay_of sheet.now)).nodes }
 {
-    let positions = part(sheet, l.positions);
-    let moves = part(sheet, l.moves);
-    let grid = grid_at(sheet, l);
-    let firsts = first_lines(moves);
-    let arena = Arena {
-        positions,
-        grid: &grid,
-        moves,
-        firsts: &firsts,
-        level: level_at(positions.len(), l.start, l.actions, l.delay),
-    };
+    let game = GameArrays::of(sheet, l);
+    let arena = game.arena(l.delay);
     first_unsound(&SizedArena { arena: &arena }, masks, marks)
 }
 
-// Judging by the W and T bodies: words before nodes.
-#[tactic(auto, using(crate::proofs::JudgeLaws::rulings))]
+// Judging by the W and T bodies: words before nodes. Masks and marks stay two slices: here alone it is known that they fit.
 fn judge_bodies(sheet: &[u8], l: Layout, flags: &[u8], masks: &[u8]) -> Judgement
     requires { Judgeable sheet.now l flags.now masks.now }
     ensures { ruling_of result ≡ ruling (game_of sheet.now) (delay_of sheet.now) (table_with flags.now masks.now) }

@@ -34,7 +34,8 @@ use Rattle.solver.specs.Solving.{solve_answer}
 use Rattle.theory.specs.Buffer.{over}
 use Rattle.lister.specs.Listing.{most_input, won_text, lost_text, game_text, read_text, listing_of, program_text, solved_text, text_with}
 use Rattle.lister.proofs.SolvedLaws.{losing_within}
-use Rattle.lister.proofs.Words.{few_words, flags_length}
+use Rattle.region.proofs.FlagLaws.{few_words}
+use Rattle.lister.proofs.Words.{flags_length}
 
 -- the buffers suffice
 

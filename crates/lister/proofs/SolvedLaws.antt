@@ -4,7 +4,6 @@ use mathlib.Core.Path.{◌≡◌, sym, ap, ◌∙◌}
 use mathlib.Core.List.{List}
 use native.Mathlib.Omega.{arith}
 use lib.ListN.{length, take}
-use lib.Seq.{length-take-le}
 use borrow.Author.Rules.{rules}
 use Rattle.theory.specs.Answer.{Answer, refused, accepted}
 use Rattle.theory.specs.Rounds.{masks, final_ranks}
@@ -99,12 +98,12 @@ module _ (s : List ℕ) (mb rb : List ℕ) where
   abbrev solved : Answer Solved
   solved = solve_answer s (length mb) (length rb)
 
-  pub refused_text : {x y : ℕ} (why : Refusal) (r : Result Solution Refusal) (p : Page) {q : Page} → r ≡ Err why → answer_by solved_by r ≡ solved
-      → y ≡ number_of why → x ≡ y → q ≡ puts p (refused_line x) → q ≡ puts p (solved_text s solved)
+  pub refused_text : (why : Refusal) (r : Result Solution Refusal) (p : Page) {q : Page} → r ≡ Err why → answer_by solved_by r ≡ solved
+      → q ≡ puts p (refused_line (number_of why)) → q ≡ puts p (solved_text s solved)
   unfolding solved_text
-  refused_text why r p e told f h g =
+  refused_text why r p e told g =
       let a : solved ≡ refused (number_of why) = by_refused solved_by r solved told why e in
-      rw (a, ← f, ← h) g
+      rw a g
 
   module _ (l x : Layout) (r : Result Solution Refusal) (read : read_answer s ≡ accepted l) where
     -- winning: the buffers are filled for the asked delay
@@ -172,8 +171,4 @@ module _ (s : List ℕ) (mb rb : List ℕ) where
             rw lost_answer
             (h ∙ ap (puts p) (lost_same m c.delay (sym (positions_are s l read)) (sym (actions_are s l read)) c.reached firstRanks))
 
--- the number of entries in a part of a buffer
-pub part_count : (n : ℕ) (xs : List ℕ) → n ≤ length xs → n ≡ length (take n xs)
-part_count n xs h = sym (length-take-le n xs h)
-
-pub ruleset solving = (rules, refused_text)
+pub ruleset solving = (rules, few_positions, refused_text, won_masks_room, won_text_lem, lost_ranks_room, lost_text_lem)

@@ -1,5 +1,5 @@
 -- The flags of the first words lie within the buffer, their lines are those of the listing, and they are theory's. Assumes nothing.
-use Prim.Native.Nat.{ℕ, ◌+◌, ◌/◌, ◌≤◌}
+use Prim.Native.Nat.{ℕ, min, ◌+◌, ◌/◌, ◌%◌, ◌≤◌}
 use mathlib.Core.Path.{◌≡◌, sym, ap, ◌∙◌}
 use mathlib.Core.List.{List}
 use native.Mathlib.Omega.{arith}
@@ -9,7 +9,6 @@ use borrow.Author.Rules.{rules}
 use Rattle.theory.specs.Answer.{accepted}
 use Rattle.theory.specs.Buffer.{over}
 use Rattle.theory.specs.Fold.{tabulate}
-use Rattle.theory.specs.Strategy.{initial_length}
 use Rattle.theory.specs.Rounds.{final_ranks}
 use Rattle.theory.specs.Delay.{arena, flags, initial_words}
 use Rattle.theory.proofs.Buffer.{over_first, over_room}
@@ -19,15 +18,10 @@ use Rattle.sheet.specs.Bodies.{delay_of}
 use Rattle.reader.specs.Reading.{read_answer}
 use Rattle.sheet.specs.SheetGame.{game_of}
 use Rattle.reader.specs.declared.reading.Layout.{Layout}
-use Rattle.reader.proofs.Accepted.{read_is, ranges}
 use Rattle.reader.proofs.Legality.{legal_game}
-use Rattle.sheet.proofs.SizeLaws.{power_bound}
-use Rattle.text.specs.declared.buffer.Page.{Page}
-use Rattle.text.specs.Page.{Puts}
-use Rattle.text.specs.Lines.{start_lines}
 use Rattle.region.specs.code.Flags.{flag_with, flags_count, flags_after}
-use Rattle.region.proofs.FlagLaws.{words_counted, flags_final}
-use Rattle.lister.specs.code.Parts.{flags_in, starts_by}
+use Rattle.region.proofs.FlagLaws.{few_words, words_counted, flags_final}
+use Rattle.lister.specs.code.Parts.{flags_in}
 
 -- n flags stand in the buffer fs, which was b of so many entries
 
@@ -43,26 +37,16 @@ module _ (s ranks b : List ℕ) (n room : ℕ) (fs : List ℕ) (e : n ≡ flags_
   pub count_within : n ≤ length fs
   count_within = rw flags_over (omega (arith, over_room (flags_in s ranks room) b, flags_counted))
 
-  pub count_part : n ≡ length (take n fs)
-  count_part = sym (length-take-le n fs count_within)
-
-  flags_front : take n fs ≡ flags_in s ranks room
+  pub flags_front : take n fs ≡ flags_in s ranks room
   flags_front = rw flags_over (over_first (flags_in s ranks room) b n flags_counted)
 
-  -- their lines; x and y are the actions and the delay as the code widens them
-  pub words_are : (l : Layout) {p q : Page} {x y : ℕ} → x ≡ l.actions → y ≡ l.delay → Puts p (start_lines x ((y + 1) / 2) (take n fs)) q
-      → Puts p (starts_by l (flags_in s ranks room)) q
-  words_are l g h z = rw (g, h, flags_front) at z
+-- half of a delay, rounded up
+pub half_up : (d : ℕ) → d / 2 + min 1 (d % 2) ≡ (d + 1) / 2
+half_up d = omega arith
 
-pub ruleset words_laws = (rules, count_within, count_part, words_are)
+pub ruleset words_laws = (rules, count_within, length-take-le, flags_front, half_up)
 
 module _ (s : List ℕ) (l : Layout) (read : read_answer s ≡ accepted l) where
-  pub few_words : initial_words (game_of s) (delay_of s) ≤ most_words
-  unfolding initial_words game_of
-  few_words =
-      let r = ranges s (read_is s l read).0 in
-      power_bound (game_of s).actions (initial_length (delay_of s)) r.few_actions (omega (arith, r.short_delay))
-
   pub flags_length : length (flags (game_of s) (delay_of s)) ≡ initial_words (game_of s) (delay_of s)
   unfolding flags
   flags_length = length_tabulate _ 0 _
@@ -71,5 +55,5 @@ module _ (s : List ℕ) (l : Layout) (read : read_answer s ≡ accepted l) where
       → flags_in s ranks most_words ≡ flags (game_of s) (delay_of s)
   unfolding flags_in
   flags_are ranks front =
-      ap (tabulate (flag_with (game_of s) (delay_of s) ranks) 0) (words_counted s l most_words read few_words)
+      ap (tabulate (flag_with (game_of s) (delay_of s) ranks) 0) (words_counted s l most_words read (few_words s l read))
       ∙ flags_final (game_of s) (legal_game s l read) (delay_of s) ranks front

@@ -43,7 +43,7 @@ listing_of s = read_text s (read_answer s)
 unfoldable pub program_text : List ℕ → List ℕ
 program_text s = cond (ltb most_input (length s)) (refused_line 1) (listing_of s)
 
--- the same with lent buffers of any size: solving refuses those that are too short
+-- the text where the lent buffers have any size: solving refuses those that are too short
 unfoldable pub solved_text : List ℕ → Answer Solved → List ℕ
 solved_text s (refused n) = refused_line n
 solved_text s (accepted a) = game_text (game_of s) (delay_of s) a.verdict

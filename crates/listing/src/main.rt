@@ -3,15 +3,15 @@
 
 use lister::{MOST_INPUT, MOST_TEXT, list_into};
 
-// The descriptors of the standard streams.
+// The descriptors of the standard streams. The kit's stdin and stdout belong to a runtime with an allocator, and here is no heap.
 const STDIN: i32 = 0;
 
 const STDOUT: i32 = 1;
 
 const STDERR: i32 = 2;
 
-// One byte more than is allowed is read, so that input that is too long is seen to be. The program has no exit
-// status: that the lines could not be written is told on standard error.
+// One byte more than is allowed is read, so that input that is too long is seen to be. That the lines could not be written is told on
+// standard error alone, as it always was: the program's exit status is part of what it does, and stays.
 fn main() {
     let mut sheet = [0u8; MOST_INPUT + 1];
     let n = io::read_full(STDIN, &mut sheet);

@@ -2,6 +2,7 @@
 use Prim.Native.Nat.{ℕ}
 use mathlib.Core.Path.{◌≡◌, ◌∙◌}
 use mathlib.Core.List.{List}
+use lib.ListN.{length}
 use Rattle.theory.specs.Answer.{Answer, refused, accepted, on_accepted}
 use Rattle.std.specs.Prelude.{Result, Ok, Err}
 use Rattle.sheet.specs.Refusals.{number_of, answer_of}
@@ -14,6 +15,7 @@ use Rattle.maker.specs.Making.{Made, make_answer, if_made, output_after, Measure
 use Rattle.maker.specs.code.Checked.{nodes_at, words_at, room_answer, Ready}
 use Rattle.maker.proofs.LayoutLaws.{Small, small}
 use Rattle.maker.proofs.RoomLaws.{Says, room_says}
+use Rattle.maker.proofs.SolvedLaws.{make_is}
 
 -- the contract for an answer, the number k that it hands on, and what the buffers hold after it; solving leaves M₂ and R₂ in them
 abbrev pub Meets : ℕ → Answer Made → Answer Measured → List ℕ → List ℕ → List ℕ → List ℕ → List ℕ → List ℕ → List ℕ → List ℕ → Type 0
@@ -26,7 +28,7 @@ unfolding measured on_accepted if_made output_after
 refuses k a n e M M₂ R R₂ O = record { answer = rw e; masks = rw e; ranks = rw e; output = rw e }
 
 -- where it was accepted, the buffers are as in solving
-pub accepts : (k : ℕ) (a : Answer Made) (y : Made) → a ≡ accepted y → (r : Answer Measured) (M M₂ M' R R₂ R' O O' : List ℕ)
+accepts : (k : ℕ) (a : Answer Made) (y : Made) → a ≡ accepted y → (r : Answer Measured) (M M₂ M' R R₂ R' O O' : List ℕ)
     → r ≡ measured k a → M' ≡ M₂ → R' ≡ R₂ → O' ≡ output_after a O → Meets k a r M M₂ M' R R₂ R' O O'
 unfolding if_made
 accepts k a y e r M M₂ M' R R₂ R' O O' f g h i = record { answer = f; masks = g ∙ rw e; ranks = h ∙ rw e; output = i }
@@ -54,3 +56,14 @@ module _ (s : List ℕ) (y : Result Layout Refusal) (ey : answer_of y ≡ read_a
 
       pub room_ready : (x : Unit {0}) → z ≡ Ok x → Ready s l M R O
       room_ready x e = says.ready (answer_accepted z _ ez x e)
+
+-- making is accepted where every check has passed
+module _ (s : List ℕ) (y : Result Layout Refusal) (ey : answer_of y ≡ read_answer s) (l : Layout) (el : y ≡ Ok l) (M R O : List ℕ)
+    (z : Result (Unit {0}) Refusal) (ez : answer_of z ≡ room_answer (nodes_at l l.delay) (words_at l) (length M) (length R) (length O))
+    (x : Unit {0}) (e : z ≡ Ok x) where
+  pub room_makes : (k : ℕ) (r : Answer Measured) (M₂ M' R₂ R' O' : List ℕ)
+      → r ≡ measured k (make_answer s (length M) (length R) (length O)) → M' ≡ M₂ → R' ≡ R₂
+      → O' ≡ output_after (make_answer s (length M) (length R) (length O)) O
+      → Meets k (make_answer s (length M) (length R) (length O)) r M M₂ M' R R₂ R' O O'
+  room_makes k r M₂ M' R₂ R' O' =
+      accepts k _ _ (make_is s l M R O (room_ready s y ey l el (length M) (length R) (length O) z ez x e)) r M M₂ M' R R₂ R' O O'

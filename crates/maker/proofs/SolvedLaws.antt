@@ -87,16 +87,23 @@ module _ (s : List ℕ) (l : Layout) (M R O : List ℕ) (ready : Ready s l (leng
   made_fits wins e = omega (arith, table_fits G d, ready.output_room)
   made_fits (losing m) e = omega (arith, ranks_fit G ranged.legal m d (early m e), ready.output_room)
 
-  -- y is the solver's answer, M' and R' what it left in the buffers
-  module _ (y : Result Solution Refusal) (ey : answer_by solved_by y ≡ solve_answer s (length M) (length R)) (M' R' : List ℕ)
-      (em : M' ≡ masks_left s (solve_answer s (length M) (length R)) M) (er : R' ≡ ranks_left s (solve_answer s (length M) (length R)) R) where
+  -- the solver's contract: y is its answer, M' and R' what it left in the buffers
+  abbrev pub Solves : Result Solution Refusal → List ℕ → List ℕ → Type 0
+  Solves y M' R' =
+      record {
+        answer : answer_by solved_by y ≡ solve_answer s (length M) (length R);
+        masks : M' ≡ masks_left s (solve_answer s (length M) (length R)) M;
+        ranks : R' ≡ ranks_left s (solve_answer s (length M) (length R)) R;
+      }
+
+  module _ (y : Result Solution Refusal) (M' R' : List ℕ) (solves : Solves y M' R') where
     masks_over : M' ≡ over (masks (arena G (solved_delay d (answer G d)))) M
     unfolding masks_left
-    masks_over = rw solve_is at em
+    masks_over = rw solve_is at solves.masks
 
     ranks_over : R' ≡ over (final_ranks (arena G (solved_delay d (answer G d)))) R
     unfolding ranks_left
-    ranks_over = rw solve_is at er
+    ranks_over = rw solve_is at solves.ranks
 
     -- the contract, for what the code answers
     abbrev pub Promised : Verdict → List ℕ → ℕ → Type 0
@@ -120,15 +127,15 @@ module _ (s : List ℕ) (l : Layout) (M R O : List ℕ) (ready : Ready s l (leng
           answer =
               rw (is, (carries s l ready.reads).reached)
               (ap (λ p. accepted (record { verdict = verdict_in x; size = p.at; reached = reached G })) whole ∙ ap accepted (sym (measure_is _ x)));
-          masks = em;
-          ranks = er;
+          masks = solves.masks;
+          ranks = solves.ranks;
           output = rw is (ap (λ p. p.bytes) whole ∙ sym (output_is x O));
         }
 
     -- winning
     module _ (v : Solution) (o : y ≡ Ok v) (x : Layout) (ex : v ≡ solution.Winning x) where
       verdict_wins : answer G d ≡ wins
-      verdict_wins = ap (λ a. a.verdict) (accepted_same (sym solve_is ∙ by_accepted solved_by y _ ey v o ∙ ap (λ u. accepted (solved_by u)) ex))
+      verdict_wins = ap (λ a. a.verdict) (accepted_same (sym solve_is ∙ by_accepted solved_by y _ solves.answer v o ∙ ap (λ u. accepted (solved_by u)) ex))
 
       pub has_table : HasTable s l M' R'
       unfolding solved_delay
@@ -146,7 +153,7 @@ module _ (s : List ℕ) (l : Layout) (M R O : List ℕ) (ready : Ready s l (leng
     -- losing m
     module _ (v : Solution) (o : y ≡ Ok v) (m : ℕ) (x : Layout) (ex : v ≡ solution.Losing m x) where
       verdict_loses : answer G d ≡ losing m
-      verdict_loses = ap (λ a. a.verdict) (accepted_same (sym solve_is ∙ by_accepted solved_by y _ ey v o ∙ ap (λ u. accepted (solved_by u)) ex))
+      verdict_loses = ap (λ a. a.verdict) (accepted_same (sym solve_is ∙ by_accepted solved_by y _ solves.answer v o ∙ ap (λ u. accepted (solved_by u)) ex))
 
       nodes : nodes_at l m ≡ (arena G m).nodes
       nodes = nodes_are s l ready.reads m
@@ -181,4 +188,4 @@ module _ (s : List ℕ) (l : Layout) (M R O : List ℕ) (ready : Ready s l (leng
 
     -- solving does not refuse what was read and has room
     pub no_refusal : {A : Type 0} (x : Refusal) → y ≡ Err x → A
-    no_refusal x ex = absurd (refused_not_accepted (sym (by_refused solved_by y _ ey x ex) ∙ solve_is))
+    no_refusal x ex = absurd (refused_not_accepted (sym (by_refused solved_by y _ solves.answer x ex) ∙ solve_is))

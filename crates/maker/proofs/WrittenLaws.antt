@@ -29,10 +29,6 @@ use Rattle.maker.specs.code.Checked.{nodes_at, header_bytes, HasTable}
 use Rattle.maker.proofs.Readable.{table_sheet_short}
 use Rattle.maker.proofs.LayoutLaws.{Small, small, asked_nodes, asked_header}
 
--- the entries of a part of a buffer
-pub counted_inside : (n N : ℕ) (xs : List ℕ) → n ≡ N → N ≤ length xs → n ≡ length (take n xs)
-counted_inside n N xs e h = sym (length-take-le n xs (omega arith))
-
 -- the rank sheet; n nodes as the code has counted them
 module _ (l : Layout) (m n : ℕ) (h xs : List ℕ) (en : n ≡ nodes_at l m) (eh : h ≡ header_bytes l m) (few : nodes_at l m ≤ most_nodes) where
   rank_sheet_short : length (rank_bytes h (take n xs)) < 256 ^ 2
@@ -47,7 +43,7 @@ module _ (l : Layout) (m n : ℕ) (h xs : List ℕ) (en : n ≡ nodes_at l m) (e
       ∙ ap (λ b. puts p (rank_bytes b (take n xs))) eh
       ∙ ap (λ k. puts p (rank_bytes (header_bytes l m) (take k xs))) en
 
-pub ruleset rank_sheets = (rules, counted_inside)
+pub ruleset rank_sheets = (rules, length-take-le, ranks_written)
 
 -- the table sheet; n nodes and w first words as the code has counted them, F the flags in a buffer that was B
 module _ (s : List ℕ) (l : Layout) (M R : List ℕ) (has : HasTable s l M R) where
@@ -90,7 +86,7 @@ module _ (s : List ℕ) (l : Layout) (M R : List ℕ) (has : HasTable s l M R) w
     flags_room = rw flags_over (omega (arith, words_are, over_room (flags G d) B))
 
     pub flags_inside : w ≡ length (take w F)
-    flags_inside = counted_inside w w F (omega arith) flags_room
+    flags_inside = sym (length-take-le w F flags_room)
 
     module _ (n : ℕ) (h : List ℕ) (en : n ≡ nodes_at l l.delay) (eh : h ≡ header_bytes l l.delay) where
       table_bytes_lem : table_bytes h (take w F) (take n M) ≡ table_sheet_of G d

@@ -18,7 +18,8 @@ use sheet::refusal::Refusal;
 use solver::solve::{Solution, solve};
 use writer::writing::{put_rank_sheet, put_table_sheet};
 
-// The length of the sheet that was written and the number of reached positions, with the losing delay where it is a rank sheet.
+// The length of the sheet that was written and the number of reached positions, with the losing delay where it is a rank sheet. The cases
+// have document 01's names.
 #[derive(Clone, Copy, Debug, PartialEq, Eq)]
 pub enum Making {
     Winning {
@@ -33,6 +34,7 @@ pub enum Making {
 }
 
 // The rank sheet at delay m.
+#[tactic(auto, using(crate::proofs::WrittenLaws::rank_sheets))]
 fn write_ranks(small: SmallLayout, m: u8, ranks: &[u16], out: &mut [u8]) -> usize
     requires { (m ≤ most_delay) × (nodes_at small.layout m ≤ most_nodes) × (nodes_at small.layout m ≤ length ranks.now) }
     ensures { Writes out.old 0 (rank_bytes (header_bytes small.layout m) (take (nodes_at small.layout m) ranks.now))
@@ -44,6 +46,7 @@ fn write_ranks(small: SmallLayout, m: u8, ranks: &[u16], out: &mut [u8]) -> usiz
 }
 
 // The table sheet at the asked delay.
+#[tactic(auto, using(crate::proofs::WrittenLaws::table_sheets))]
 fn write_table(
     sheet: &[u8],
     small: SmallLayout,
@@ -63,7 +66,7 @@ fn write_table(
     put_table_sheet(out, &h, &flags[..words], &masks[..nodes])
 }
 
-// Solving and writing, once every check has passed.
+// Solving and writing, once every check has passed. The areas are the caller's and stay slices, as in `solve`.
 fn make_read(
     sheet: &[u8],
     small: SmallLayout,

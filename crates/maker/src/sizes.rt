@@ -9,7 +9,7 @@ use sheet::refusal::Refusal;
 use sheet::size::{nodes_at, words_at};
 use writer::writing::TABLE_START;
 
-// Checks 2 and 3 leave its numbers small.
+// Checks 2 and 3 leave its numbers small, so that the casts below lose nothing.
 #[derive(Clone, Copy)]
 pub(crate) struct SmallLayout {
     pub layout: Layout,
@@ -30,7 +30,7 @@ impl SmallLayout {
         nodes_at(self.layout.positions.size as u16, self.layout.actions, m)
     }
 
-    // The S body at delay m.
+    // The S body at delay m. Four bytes and no conversion `From`, here as in notice: the numbers come from different structs.
     #[tactic(auto, unfolding(crate::specs::code::Checked::header_bytes))]
     pub(crate) fn header(self, m: u8) -> [u8; 4]
         ensures { result ≡ header_bytes self.layout m }
@@ -41,6 +41,7 @@ impl SmallLayout {
     }
 
     // Checks 8 and 9.
+    #[tactic(auto, using(crate::proofs::RoomLaws::rooms))]
     pub(crate) fn check_room(self, masks: usize, ranks: usize, out: usize) -> Result<(), Refusal>
         ensures { answer_of result
             ≡ room_answer (nodes_at self.layout self.layout.delay) (words_at self.layout) masks ranks out }

@@ -1,6 +1,6 @@
 -- The code of src/closing.rt: which positions a notice lists, whether they exist, and the P body in which they are unsafe; and that this
 -- body's game is the closed one. Assumes nothing.
-use Prim.Native.Nat.{ℕ, ◌+◌, ◌≤◌, ◌<◌}
+use Prim.Native.Nat.{ℕ, ◌≤◌, ◌<◌}
 use mathlib.Core.Path.{◌≡◌, refl, sym, ◌∙◌, ap, fun_ext}
 use mathlib.Core.Bool.{Bool, true, false, not, cond}
 use mathlib.Core.List.{List, [], ◌∷◌}
@@ -8,13 +8,13 @@ use mathlib.Core.Logic.{⊎_elim}
 use native.Mathlib.Omega.{arith}
 use lib.Dec.{eqb}
 use Rattle.std.specs.List.{list_any}
-use lib.ListN.{length, get_or, set}
+use lib.ListN.{length, get_or}
 use borrow.Author.Rules.{rules}
-use borrow.Author.Tests.{eq-eqb, ne_eqb, lt-ltb, le-ltb}
-use Rattle.theory.specs.Fold.{both}
+use borrow.Author.Tests.{ne_eqb, lt-ltb, le-ltb}
+use Rattle.theory.specs.Fold.{both, either}
 use Rattle.theory.specs.Buffer.{over}
 use Rattle.theory.specs.Closing.{listed, open_in, close}
-use Rattle.theory.proofs.Fold.{bool, below?, same?, both_none, both_false, both_second, either_left, either_second}
+use Rattle.theory.proofs.Fold.{bool, below?, same?, both_none, both_false, both_second}
 use Rattle.theory.proofs.Fold.{length_tabulate, get_d_tabulate}
 use Rattle.theory.proofs.Notices.{listed_nil, listed_cons}
 use Rattle.theory.proofs.Filling.{filled, filled_none, filled_more, filled_over}
@@ -25,14 +25,10 @@ use Rattle.notice.specs.code.Closed.{closed_byte, closed_at, closed_body}
 
 -- a position is looked for, and check 23
 
-pub any_listed : (ps : List ℕ) (q : ℕ) → list_any (λ x. eqb x q) ps ≡ listed ps q
+pub any_listed : (ps : List ℕ) (q : ℕ) → list_any (eqb q) ps ≡ listed ps q
+unfolding either
 any_listed [] q = sym (listed_nil q)
-any_listed (x ∷ ps) q =
-    ⊎_elim
-    (λ (e : q ≡ x). rw (eq-eqb x q (sym e), listed_cons x ps q, eq-eqb q x e) (sym (either_left true (listed ps q) refl)))
-    (λ (n : q ≡ x → ⊥).
-    rw (ne_eqb x q (λ e. n (sym e)), listed_cons x ps q, ne_eqb q x n) (any_listed ps q ∙ sym (either_second false (listed ps q) refl)))
-    (same? q x)
+any_listed (x ∷ ps) q = rw (any_listed ps q) (sym (listed_cons x ps q))
 
 -- one byte
 
@@ -43,18 +39,10 @@ module _ (b : ℕ) where
 
 -- the body
 
-module _ (p ps to : List ℕ) (room : length p ≤ length to) where
-  pub body_start : to ≡ filled (closed_at p ps) 0 to
-  body_start = filled_none (closed_at p ps) to
-
-  pub body_more : (q : ℕ) {v : ℕ} {l : List ℕ} → l ≡ filled (closed_at p ps) q to → q < length p → v ≡ closed_at p ps q
-      → set l q v ≡ filled (closed_at p ps) (q + 1) to
-  body_more q e h f = filled_more (closed_at p ps) to q e (omega arith) f
-
-  pub body_done : (q : ℕ) {l : List ℕ} → l ≡ filled (closed_at p ps) q to → q ≤ length p → length p ≤ q → l ≡ over (closed_body p ps) to
+module _ (p ps to : List ℕ) where
+  pub body_done : (q : ℕ) → q ≤ length p → length p ≤ q → filled (closed_at p ps) q to ≡ over (closed_body p ps) to
   unfolding closed_body
-  body_done q e a b =
-      let s : q ≡ length p = omega arith in e ∙ ap (λ n. filled (closed_at p ps) n to) s ∙ filled_over (closed_at p ps) to (length p)
+  body_done q a b = let s : q ≡ length p = omega arith in ap (λ n. filled (closed_at p ps) n to) s ∙ filled_over (closed_at p ps) to (length p)
 
   -- a byte of it
   module _ (q : ℕ) {b : ℕ} (e : b ≡ get_or p q 0) where
@@ -66,7 +54,7 @@ module _ (p ps to : List ℕ) (room : length p ≤ length to) where
     unfolding closed_at
     at_other f t = e ∙ rw (sym f ∙ t)
 
-pub ruleset closing_all = (rules, body_start, at_listed, at_other, body_more, body_done)
+pub ruleset closing_all = (rules, filled_none, filled_more, at_listed, at_other, body_done)
 
 -- the kind of a closed position
 

@@ -31,6 +31,7 @@ use Rattle.sheet.specs.Form.{part_at}
 use Rattle.sheet.specs.Bodies.{positions_body, delay_of}
 use Rattle.sheet.specs.SheetGame.{game_of}
 use Rattle.sheet.specs.Refusals.{number_of}
+use Rattle.sheet.proofs.RefusalLaws.{by_accepted, by_refused}
 use Rattle.sheet.specs.declared.refusal.Refusal.{Refusal}
 use Rattle.sheet.specs.Refusals.{answer_of, answer_by}
 use Rattle.std.proofs.Common.{Result, Ok, Err}
@@ -196,15 +197,12 @@ module _ (s : List ℕ) (l : Layout) (ps flags masks : List ℕ) (reads : read_a
         let i : v < length flags = rw (length_tabulate (kept_flag_at shut flags (good_flags_by s left good)) 0 (length flags)) at h in
         get_d_tabulate (kept_flag_at shut flags (good_flags_by s left good)) (length flags) v 0 i ∙ kept_at v (rw words_count at i)))
 
-  few_masks : length masks ≤ most_nodes
+  -- buffers for the largest table have room
+  pub few_masks : length masks ≤ most_nodes
   few_masks = omega (arith, fits.masks_length, arena_nodes s d, few_nodes s l reads)
 
-  -- buffers for the largest table have room
-  pub masks_fit : {m : ℕ} → most_nodes ≤ m → length masks ≤ m
-  masks_fit h = omega (arith, few_masks)
-
-  pub flags_fit : {m : ℕ} → most_words ≤ m → length flags ≤ m
-  flags_fit h = omega (arith, fits.flags_length, few_words G d (sheet_ranged s l reads))
+  pub few_flags : length flags ≤ most_words
+  few_flags = omega (arith, fits.flags_length, few_words G d (sheet_ranged s l reads))
 
 -- the sheet is written
 
@@ -259,15 +257,6 @@ module _ (s : List ℕ) (l : Layout) (x : TableLayout) (ps flags masks : List �
         can.fits.masks_length,
       )
 
-  pub bodies_sized : SizedMasks (arena (game_of s) (delay_of s)) masks
-  bodies_sized = masks_sized s l ps flags masks can.reads can.fits
-
-  pub masks_inside : {m : ℕ} → m ≡ most_nodes → length masks ≤ m
-  masks_inside e = masks_fit s l ps flags masks can.reads can.fits (omega arith)
-
-  pub flags_inside : {m : ℕ} → m ≡ most_words → length flags ≤ m
-  flags_inside e = flags_fit s l ps flags masks can.reads can.fits (omega arith)
-
   -- the buffers hold what is left
   module _ (buffer good₀ good : List ℕ) (em : take (length masks) buffer ≡ (left_of s ps [] masks).masks) (room₀ : most_words ≤ length good₀)
       (eg : good ≡ kept_after (start_shut l.delay l.start ps) flags (good_flags_by s (take (length masks) buffer) good₀)) where
@@ -298,7 +287,7 @@ module _ (s : List ℕ) (l : Layout) (x : TableLayout) (ps flags masks : List �
     output_left out e = e ∙ ap (λ b. over b out) bytes_are
 
 pub ruleset bodies_posted =
-    (rules, bodies_sized, masks_inside, flags_inside, sheet_short, sheet_room, answer_left, output_left)
+    (rules, sheet_short, sheet_room, answer_left, output_left)
 
 -- the answer and the output of a refusal
 
@@ -382,9 +371,13 @@ module _ (s : List ℕ) (l : Layout) (t : List ℕ) (x : TableLayout) (ps : List
 
         pub postable : Postable s l x w m (length out)
         postable =
+            let f : TableFits (game_of s) (delay_of s) (table_with w m) = rw (ew, em) given_fits in
             record {
               reads = both.reads;
-              fits = rw (ew, em) given_fits;
+              fits = f;
+              sized = masks_sized s l ps w m both.reads f;
+              few_flags = few_flags s l ps w m both.reads f;
+              few_masks = few_masks s l ps w m both.reads f;
               numbers = numbers_are;
               room_enough = rw (table_size (numbers_of x) w m) (omega arith);
             }
@@ -406,7 +399,7 @@ module _ (s t : List ℕ) (rd : Result Layout Refusal) (e : answer_of rd ≡ rea
 
   module _ (x : TableLayout) (b : y ≡ Ok x) {r : Bool} (er : r ≡ layouts_agree l x) where
     shape : shape_answer t ≡ accepted (table_at t x)
-    shape = sym ey ∙ ap (answer_by (table_at t)) b
+    shape = by_accepted (table_at t) y _ ey x b
 
     agree_is : r ≡ sheets_agree s (table_at t x)
     agree_is = er ∙ agree_layouts s t l x reads
@@ -418,7 +411,7 @@ module _ (s t : List ℕ) (rd : Result Layout Refusal) (e : answer_of rd ≡ rea
     module _ (x : Refusal) (f : y ≡ Err x) where
       shapeless : posting s t ps out ≡ refused (number_of x)
       unfolding post_answer on_accepted
-      shapeless = let z : shape_answer t ≡ refused (number_of x) = sym ey ∙ ap (answer_by (table_at t)) f in rw (reads, z)
+      shapeless = rw (reads, by_refused (table_at t) y _ ey x f)
 
       pub shapeless_answer : refused (number_of x) ≡ written_of s (posting s t ps out)
       shapeless_answer = refused_answer s _ _ shapeless
@@ -449,4 +442,4 @@ module _ (s t ps out : List ℕ) (rd : Result Layout Refusal) (e : answer_of rd 
   unread_output = refused_output s _ _ unread out
 
 pub ruleset posted =
-    (rules, unread_answer, shapeless_answer, other_answer, other_output, both_agree, absent_answer, absent_output, sizes_fit, short_answer, short_output)
+    (rules, unread_answer, shapeless_answer, other_answer, other_output, both_agree, absent_answer, absent_output, sizes_fit, short_answer, short_output, taken_answer)

@@ -7,6 +7,7 @@ use region::words::initial_flags;
 use rule::part::fill_marks;
 use sheet::limits::MOST_NODES;
 
+// Flags are bytes of 0 and 1, as the W body has them.
 #[tactic(auto, unfolding(crate::specs::code::Left::kept_flag, theory::specs::Fold::both))]
 fn kept_flag(shut: bool, flag: u8, good: u8) -> u8
     ensures { result ≡ kept_flag shut flag good }
@@ -15,11 +16,12 @@ fn kept_flag(shut: bool, flag: u8, good: u8) -> u8
 }
 
 // The buffer holds the flags of the good words, and then of those that remain.
-#[tactic(auto, using(crate::proofs::WordLaws::keeping))]
+#[tactic(auto, unfolding(crate::specs::code::Left::kept_flag_at), using(crate::proofs::WordLaws::keeping))]
 fn keep_flags(shut: bool, flags: &[u8], good: &mut [u8])
     requires { length flags.now ≤ length good.old }
     ensures { good.new ≡ kept_after shut flags.now good.old }
 {
+    // by index, which the two slices share: of what a loop writes through `zip` a proof learns nothing
     for (v, &flag) in flags.iter().enumerate() {
         good[v] = kept_flag(shut, flag, good[v]);
     }

@@ -15,7 +15,7 @@ use sheet::refusal::Refusal;
 use table::reading::{TableLayout, read_shape, some_flagged};
 use writer::writing::{TABLE_START, put_table_sheet};
 
-// The length of the sheet that was written: with a first word that remains, or with none.
+// The length of the sheet that was written: with a first word that remains, or with none. Neither is an error, so it is no Result.
 #[derive(Clone, Copy, Debug, PartialEq, Eq)]
 pub enum Posting {
     Posted(usize),
@@ -65,14 +65,14 @@ pub fn post(sheet: &[u8], table: &[u8], notice: &[u8], out: &mut [u8]) -> Result
     ensures output { out.new
         ≡ posted_output sheet.now table.now notice.now out.old }
 {
-    let layout = read(sheet)?;
+    let l = read(sheet)?;
     let x = read_shape(table)?;
-    if !layouts_agree(layout, x) {
+    if !layouts_agree(l, x) {
         return Err(Refusal::Mismatch);
     }
     let closing = Notice {
         sheet,
-        layout,
+        layout: l,
         positions: notice,
     };
     if !closing.all_exist() {

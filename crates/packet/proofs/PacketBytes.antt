@@ -17,7 +17,7 @@ use Rattle.state.proofs.Repeat.{decode_filled, length_filled}
 use Rattle.controller.specs.Controller.{Heard, heard_all, refused_at, on_heard, observe_with, observe_each, packet_answer}
 use Rattle.controller.specs.Accuracy.{Response, accepts, acts, refuses, refuses_at, observe_all, reply, after_each, after_packet}
 use Rattle.controller.specs.declared.calls.Observation.{Observation}
-use Rattle.controller.proofs.Answers.{observe_with_accepted}
+use Rattle.controller.proofs.AnswerLaws.{observe_with_accepted}
 use Rattle.controller.proofs.CallLaws.{usable}
 use Rattle.packet.specs.Packet.{all_filled, bytes_by, packet_reply}
 

@@ -23,7 +23,7 @@ use Rattle.state.proofs.Repeat.{anew, slot_kept, filled_left, filled_anew, lengt
 use Rattle.controller.specs.Controller.{Heard, heard_all, refused_at, on_heard, observe_with, observe_each, packet_answer}
 use Rattle.controller.specs.Accuracy.{accepts, refuses_at, observe_all, reply, after_each, after_packet}
 use Rattle.controller.specs.declared.calls.Observation.{Observation}
-use Rattle.controller.proofs.Answers.{observe_accepts, Observable, observe_with_accepted}
+use Rattle.controller.proofs.AnswerLaws.{observe_accepts, Observable, observe_with_accepted}
 use Rattle.packet.specs.Packet.{all_filled, bytes_by, PacketReply, packet_reply}
 use Rattle.packet.proofs.PacketBytes.{on_heard_lem, index_decodes, packet_passed}
 

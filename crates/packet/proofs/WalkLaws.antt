@@ -24,10 +24,10 @@ use Rattle.state.specs.StateBytes.{state_bytes, decode_state, slot_filled, index
 use Rattle.state.specs.declared.state.State.{State}
 use Rattle.state.proofs.Repeat.{length_filled}
 use Rattle.controller.specs.Controller.{Heard, heard_all, refused_at, on_heard, observe_with, observe_each, most_observations, packet_answer}
-use Rattle.controller.specs.Accuracy.{accepts, refuses, refuses_at, after_each, after_packet}
+use Rattle.controller.specs.Accuracy.{accepts, refuses_at, after_each, after_packet}
 use Rattle.controller.specs.code.Ages.{age_with}
 use Rattle.controller.specs.declared.calls.Observation.{Observation}
-use Rattle.controller.proofs.Answers.{observe_aged, age_accepted, observe_with_accepted}
+use Rattle.controller.proofs.AnswerLaws.{observe_aged, age_accepted, observe_with_accepted}
 use Rattle.controller.proofs.CallLaws.{state_any, readable}
 use Rattle.packet.specs.Packet.{PacketReply, all_filled, bytes_by, packet_reply}
 use Rattle.packet.specs.code.Walked.{hear_in, walk_on, walked_by}
@@ -141,20 +141,22 @@ reply_by b os a =
     }
 
 module _ (t b : List ℕ) (os : List Observation) where
-  -- a packet that is refused before any record
-  pub packet_refused : (n : ℕ) → refused n ≡ packet_answer t (decode_state b) (length os) → record { response = refuses n; bytes = b } ≡ packet_reply t b os
-  packet_refused n e = ap (reply_by b os) e
-
   -- one whose records are walked
-  pub packet_whole : (x : TableSheet) → length b ≡ state_bytes → accepted x ≡ packet_answer t (decode_state b) (length os)
-      → walked_by x.highest x.delay b b 0 os ≡ packet_reply t b os
-  packet_whole x long e =
+  pub packet_whole : (l : TableLayout) → length b ≡ state_bytes → accepted (table_at t l) ≡ packet_answer t (decode_state b) (length os)
+      → walked_by l.highest l.delay b b 0 os ≡ packet_reply t b os
+  packet_whole l long e =
+      let x = table_at t l in
       let passed = packet_passed t (decode_state b) (length os) x (sym e) in
       walked_each x passed.1 b b long passed.2 0 os
       ∙ heard_whole (decode_state b) b os (observe_each x (decode_state b) 0 os)
       ∙ ap (reply_by b os) e
 
 -- one turn of the loop, and its end: what is left gives the whole; o is the record at place k
+
+pub left_done : (highest d : ℕ) (before b : List ℕ) (os : List Observation) (k : ℕ) → length os ≤ k
+    → record { response = accepts; bytes = b } ≡ walked_by highest d before b k (drop k os)
+unfolding walked_by
+left_done highest d before b os k h = ap (walked_by highest d before b k) (sym (drop_of_length-le os {i = k} h))
 
 module _ (highest d : ℕ) (before b : List ℕ) (os : List Observation) (k : ℕ) (none : Observation) where
   left_first : k < length os → walked_by highest d before b k (drop k os)
@@ -175,10 +177,6 @@ module _ (highest d : ℕ) (before b : List ℕ) (os : List Observation) (k : �
   unfolding walk_on
   left_refused n h e =
       ap (λ a. walk_on before k a (λ b. walked_by highest d before b (suc k) (drop (suc k) os))) e ∙ sym (left_first h)
-
-  pub left_done : length os ≤ k → record { response = accepts; bytes = b } ≡ walked_by highest d before b k (drop k os)
-  unfolding walked_by
-  left_done h = ap (walked_by highest d before b k) (sym (drop_of_length-le os {i = k} h))
 
 -- what `map_err` was given, by what it gives
 
@@ -201,3 +199,8 @@ module _ {A E D : Type 0} (Q : E → D → Type 0) (r : Result A E) (m : Result 
           let z : m ≡ Err p.0 = p.1 in
           let same : p.0 ≡ d = cc in
           (e, refl, subst (Q e) same p.2)
+
+-- as the code asks them
+pub ruleset read_laws = (refused_20, refused_22, read_for_is)
+
+pub ruleset walk_laws = (packet_whole, left_next, left_refused, left_done, mapped_ok, mapped_err)

@@ -1,4 +1,4 @@
-// What hearing a packet answers, in numbers, for callers who lend their state.
+// What hearing a packet answers, in numbers, for C callers, who lend their state.
 ghost use Rattle.std.specs.Prelude.{◌≡◌};
 ghost use Rattle.packet.specs.Packet.{refused_by};
 ghost use Rattle.packet.specs.Told.{told};
@@ -7,7 +7,7 @@ use crate::hearing::PacketRefusal;
 
 // The refusal's number, 0 where the packet is accepted, and the place of the refused record, 0 where there is none.
 #[repr(C)]
-#[derive(Clone, Copy)]
+#[derive(Clone, Copy, Debug, PartialEq, Eq)]
 pub struct PacketAnswer {
     pub refusal: u8,
     pub place: usize,

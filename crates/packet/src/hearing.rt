@@ -18,7 +18,7 @@ use table::reading::{TableLayout, read};
 const MOST_OBSERVATIONS: usize = 16;
 
 // Why a packet is refused, and the place of the refused record, from 0, where it is one record's refusal.
-#[derive(Clone, Copy)]
+#[derive(Clone, Copy, Debug, PartialEq, Eq)]
 pub struct PacketRefusal {
     pub refusal: Refusal,
     pub place: Option<usize>,
@@ -36,7 +36,7 @@ impl From<Refusal> for PacketRefusal {
 }
 
 // What is refused of n records before any is looked at: 10 to 12, 20 and 22.
-#[tactic(auto, unfolding(controller::specs::Controller::packet_answer, theory::specs::Answer::on_accepted))]
+#[tactic(auto, using(crate::proofs::WalkLaws::read_laws), unfolding(controller::specs::Controller::packet_answer, theory::specs::Answer::on_accepted))]
 fn read_for(sheet: &[u8], state: &[u8; STATE_BYTES], n: usize) -> Result<TableLayout, Refusal>
     ensures { answer_by (table_at sheet.now) result ≡ packet_answer sheet.now (decode_state state.now) n }
 {
@@ -50,7 +50,8 @@ fn read_for(sheet: &[u8], state: &[u8; STATE_BYTES], n: usize) -> Result<TableLa
     Ok(l)
 }
 
-// A record, on a state that is one: check 20 was made for the packet, and no record undoes it.
+// A record, on a state that is one: check 20 was made for the packet, and no record undoes it. Not by observe_with: a packet took 1.4
+// times as long (docs/DECISIONS.md).
 #[tactic(auto, unfolding(crate::specs::code::Walked::hear_in, theory::specs::Answer::on_accepted, theory::specs::Answer::check))]
 fn hear(
     l: TableLayout,
@@ -69,6 +70,7 @@ fn hear(
 }
 
 // "Hearing takes a lent list of report records": one walk, which calls the by-value hearing. The sheet is read once.
+#[tactic(auto, using(crate::proofs::WalkLaws::walk_laws, std::proofs::lemmas::Result::err_from_is_err_and))]
 pub fn observe_all(
     sheet: &[u8],
     state: &[u8; STATE_BYTES],

@@ -5,17 +5,17 @@ use mathlib.Core.Bool.{Bool, true, false, not, cond, ◌||◌}
 use mathlib.Core.List.{List}
 use mathlib.Core.Logic.{◌⊎◌, ⊎_elim}
 use native.Mathlib.Omega.{arith}
-use mir.Val.{Fits}
-use mir.Syntax.{w8}
 use lib.Dec.{eqb, leb}
 use lib.Pow.{pow_mono}
-use lib.ListN.{length, get_or, set, replicate, length-set, length-replicate, get_or-replicate, get_or-eq_default}
+use lib.ListN.{length, get_or, set, replicate, length-set, length-replicate}
 use lib.Seq.{get_or-set_same}
 use borrow.Author.Rules.{rules}
-use borrow.Author.Tests.{eq-eqb, ne_eqb, lt-ltb, le-ltb, le-leb, lt-leb, not-true, not-false}
+use borrow.Author.Tests.{eqb-true, eq-eqb, ne_eqb, lt-ltb, le-ltb, le-leb, lt-leb, not-true, not-false}
 use Rattle.theory.specs.Fold.{either}
 use Rattle.theory.specs.Rounds.{Arena}
-use Rattle.theory.proofs.Fold.{not_both, below?, both_true, both_none, both_false, both_second}
+use Rattle.theory.proofs.Buffer.{zeros}
+use Rattle.theory.proofs.Fold.{not_both, below?, both_true, both_none, both_false, both_second, both_left, both_right}
+use Rattle.arrayvec.specs.ArrayVec.{ArrayVec}
 use Rattle.sheet.specs.Limits.{most_actions, most_nodes}
 use Rattle.sheet.specs.code.Arrays.{view_of}
 use Rattle.walk.specs.declared.level.Level.{Level}
@@ -23,7 +23,7 @@ use Rattle.walk.specs.code.Levels.{arena_of}
 use Rattle.walk.specs.code.Arenas.{arena_in}
 use Rattle.walk.specs.code.Nodes.{Sized, is_sized, is_fitted, is_node}
 use Rattle.walk.specs.code.Walks.{fallen_by}
-use Rattle.walk.proofs.NodeLaws.{node_tested, sized_level, fitted, level_unfit, buffer_unfit}
+use Rattle.walk.proofs.NodeLaws.{node_tested, tested_sized}
 use Rattle.rule.specs.code.Parts.{mark_for, mark_at, marks_after, part_of, part_in}
 use Rattle.rule.proofs.PartCode.{mark_fallen, after_marked, after_beyond, after_length}
 use Rattle.prune.specs.declared.cut.Pruning.{Pruning}
@@ -34,17 +34,10 @@ use Rattle.prune.proofs.CutLaws.{part_lt, cut_none, cut_on, cut_cut, cut_gone, c
 -- the buffers
 
 pub same_none : (w : Pruning) → Same w w
-same_none w = record { arena = refl; masks = refl; marks = refl; queue = refl; room = refl }
+same_none w = record { arena = refl; masks = refl }
 
 pub same_on : {w w' w'' : Pruning} → Same w w' → Same w' w'' → Same w w''
-same_on a b =
-    record {
-      arena = b.arena ∙ a.arena;
-      masks = b.masks ∙ a.masks;
-      marks = b.marks ∙ a.marks;
-      queue = b.queue ∙ a.queue;
-      room = b.room ∙ a.room;
-    }
+same_on a b = record { arena = b.arena ∙ a.arena; masks = b.masks ∙ a.masks }
 
 -- one node's mask
 
@@ -59,19 +52,20 @@ module _ (w : Pruning) where
   unfolding arena_of view_of
   nodes_are = w.sized.all_nodes
 
+  pub part_byte : (k m : ℕ)
+      → part_in w.arena.now.positions.now w.arena.now.grid.now w.arena.now.moves.now w.arena.now.firsts.now l w.marks.now k m < 256
+  unfolding part_in arena_of view_of
+  part_byte k m = either_way (is_node (length w.arena.now.positions.now) l k)
+    where
+      either_way : (b : Bool) → cond b (part_of E (fallen_by 1 w.marks.now) k m) 0 < 256
+      either_way true =
+          let t = part_lt E (fallen_by 1 w.marks.now) k m in
+          let b : 2 ^ l.actions ≤ 2 ^ most_actions = pow_mono w.sized.few_actions in
+          omega arith
+      either_way false = omega arith
+
   module _ (k m r : ℕ) (h : k < l.nodes) (em : m ≡ get_or w.masks.now k 0)
       (er : r ≡ part_in w.arena.now.positions.now w.arena.now.grid.now w.arena.now.moves.now w.arena.now.firsts.now l w.marks.now k m) where
-    pub part_byte : Fits w8 r
-    unfolding part_in arena_of view_of
-    part_byte = record { fits = rw er (either_way (is_node (length w.arena.now.positions.now) l k)) }
-      where
-        either_way : (b : Bool) → cond b (part_of E (fallen_by 1 w.marks.now) k m) 0 < 256
-        either_way true =
-            let t = part_lt E (fallen_by 1 w.marks.now) k m in
-            let b : 2 ^ l.actions ≤ 2 ^ most_actions = pow_mono w.sized.few_actions in
-            omega arith
-        either_way false = omega arith
-
     part_is : r ≡ part_now E w.masks.now k
     unfolding part_in part_now
     part_is =
@@ -160,17 +154,12 @@ module _ (w : Pruning) where
       }
 
   -- the sweep began with an empty queue
-  pub sweep_end : {k t : ℕ} {h : t ≤ length w.queue.now} {w' : Pruning} {b : Bool} → k ≤ length w.masks.now → length w.masks.now ≤ k
-      → Swept (record w { tail = t; inside = h }) k w' b → Swept w w.arena.now.level.nodes w' b
-  sweep_end {k} {t} {h} {w'} {b} l g s =
+  pub sweep_end : {k : ℕ} {queue : ArrayVec ℕ} {w' : Pruning} {b : Bool} → k ≤ length w.masks.now → length w.masks.now ≤ k
+      → Swept (record w { queue = queue }) k w' b → Swept w w.arena.now.level.nodes w' b
+  sweep_end {k} {queue} {w'} {b} l g s =
       let q : k ≡ w.arena.now.level.nodes = omega (arith, w.nodes) in
-      let same = s.same in
       let r : Swept w k w' b =
-      record {
-        left = s.left;
-        any = s.any;
-        same = record { arena = same.arena; masks = same.masks; marks = same.marks; queue = same.queue; room = same.room };
-      } in
+      record { left = s.left; any = s.any; same = record { arena = s.same.arena; masks = s.same.masks } } in
       rw q at r
 
 pub ruleset sweeping = (rules, sweep_start, sweep_next, sweep_end)
@@ -215,41 +204,30 @@ module _ {w w' : Pruning} {b : Bool} (swept : Swept w w.arena.now.level.nodes w'
 
 pub ruleset sweeping_on = (rules, sweep_quiet, sweep_many, sweep_drained)
 
--- until nothing changes
-
-module _ {w v w' : Pruning} {b : Bool} (goes : Goes w v) (on : SweptOn v w' b) where
-  pub on_over : not b ≡ true → Pruned (arena_in w.arena.now) w.masks.now w'.masks.now
-  on_over e =
-      let x : Pruned (arena_in w.arena.now) v.masks.now w'.masks.now = rw goes.same.arena at (on.over (not-true b e)) in
-      record { cut = cut_on (arena_in w.arena.now) goes.cut x.cut; whole = x.whole }
-
-  pub on_goes : Goes w w'
-  on_goes = goes_on goes on.goes
-
-pub ruleset rounding = (rules, goes_none, on_over, on_goes, not-false)
-
 -- the buffers at the start
 
-zeros : (n k : ℕ) → get_or {A = ℕ} (replicate n 0) k 0 ≡ 0
-zeros n k =
-    ⊎_elim
-    (λ (h : k < n). get_or-replicate {A = ℕ} n k 0 0 h)
-    (λ (h : n ≤ k). get_or-eq_default {A = ℕ} (replicate n 0) 0 (rw (length-replicate {A = ℕ} n 0) h))
-    (below? k n)
+-- r is what the code's test says
+module _ (positions entries : ℕ) (l : Level) {r : Bool} (e : r ≡ is_fitted positions l entries) (t : r ≡ true) where
+  pub start_sized : Sized positions l
+  unfolding is_fitted
+  start_sized = tested_sized positions l (both_left _ _ (sym e ∙ t))
 
-pub start_sized : {positions : ℕ} {l : Level} {r : Bool} → r ≡ is_sized positions l → r ≡ true → Sized positions l
-start_sized {positions} {l} e t = sized_level positions l e (rw t refl)
+  pub start_nodes : entries ≡ l.nodes
+  unfolding is_fitted
+  start_nodes = eqb-true entries l.nodes (both_right (is_sized positions l) _ (sym e ∙ t))
 
-module _ {positions : ℕ} (l : Level) (masks marks : List ℕ) (sized : Sized positions l) (nodes : length masks ≡ l.nodes)
+module _ (positions : ℕ) (l : Level) (masks marks : List ℕ) {r : Bool} (e : r ≡ is_fitted positions l (length masks)) (t : r ≡ true)
     (after : marks ≡ marks_after masks (replicate most_nodes 0)) where
   abbrev blank : List ℕ
   blank = replicate most_nodes 0
 
   fits : length masks ≤ length blank
-  fits = omega (arith, length-replicate {A = ℕ} most_nodes 0, nodes, sized.few_nodes)
+  fits =
+      let sized = start_sized positions (length masks) l e t in
+      omega (arith, length-replicate {A = ℕ} most_nodes 0, start_nodes positions (length masks) l e t, sized.few_nodes)
 
   pub start_room : l.nodes ≤ length marks
-  start_room = rw after (omega (arith, fits, nodes, after_length masks blank fits))
+  start_room = rw after (omega (arith, fits, start_nodes positions (length masks) l e t, after_length masks blank fits))
 
   -- every mark shows its node's mask
   pub start_shown : Shown masks marks
@@ -271,25 +249,19 @@ module _ {positions : ℕ} (l : Level) (masks marks : List ℕ) (sized : Sized p
 -- any level and masks
 
 module _ (p : List ℕ) (g : List (List ℕ)) (u f : List ℕ) (l : Level) (masks : List ℕ) where
-  -- by what a guard says
-  pub left_alone : {r : Bool} → r ≡ is_sized (length p) l
-      → (r ≡ false) ⊎ (((r ≡ true) × (l.actions < 1)) ⊎ ((r ≡ true) × (1 ≤ l.actions) × (length masks ≡ l.nodes → ⊥)))
+  -- by what the test says
+  pub left_alone : {r : Bool} → r ≡ is_fitted (length p) l (length masks) → (r ≡ false) ⊎ ((r ≡ true) × (l.actions < 1))
       → PrunedLeft p g u f l masks masks
   unfolding PrunedBy is_prunable
   left_alone {r} e c =
       ⊎_elim
-      (λ f. rw (both_none _ (leb 1 l.actions) (level_unfit (length p) l (length masks) e (rw f))) refl)
-      (λ d.
-      ⊎_elim
+      (λ (n : r ≡ false). rw (both_none _ (leb 1 l.actions) (sym e ∙ n)) refl)
       (λ ((t, h) : (r ≡ true) × (l.actions < 1)). rw (both_false (is_fitted (length p) l (length masks)) _ (lt-leb 1 l.actions h)) refl)
-      (λ ((t, h, n) : (r ≡ true) × (1 ≤ l.actions) × (length masks ≡ l.nodes → ⊥)).
-      rw (both_none _ (leb 1 l.actions) (buffer_unfit (length p) l (length masks) n)) refl)
-      d)
       c
 
-  pub left_pruned : {after : List ℕ} → Sized (length p) l → 1 ≤ l.actions → length masks ≡ l.nodes → Pruned (arena_of p g u f l) masks after
-      → PrunedLeft p g u f l masks after
+  pub left_pruned : {r : Bool} {after : List ℕ} → r ≡ is_fitted (length p) l (length masks) → r ≡ true → 1 ≤ l.actions
+      → Pruned (arena_of p g u f l) masks after → PrunedLeft p g u f l masks after
   unfolding PrunedBy is_prunable
-  left_pruned s a d x = rw (both_true _ _ (fitted (length p) l (length masks) s d) (le-leb 1 l.actions a)) x
+  left_pruned e t a x = rw (both_true _ _ (sym e ∙ t) (le-leb 1 l.actions a)) x
 
-pub ruleset pruning = (rules, left_alone, left_pruned, sized_level)
+pub ruleset pruning = (rules, left_alone, left_pruned)

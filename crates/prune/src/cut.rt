@@ -4,34 +4,37 @@ ghost use Rattle.walk.specs.code.Arenas.{IsSized};
 ghost use Rattle.prune.specs.code.Pruning.{Shown};
 
 use crate::strike::Moves;
+use arrayvec::ArrayVec;
 use rule::part::{allowed_part, mark_for};
 use walk::arena::Arena;
 
-// The masks that bits go out of, over a game's arrays; the marks by which the walk counts a node without a mask as fallen; and a queue: the
-// first so many of its entries are nodes that fell, as far as it has room. It tells which nodes are worth another look, as the moves tell
-// which position leads where, and no more hangs on either. The level is small and has an action, each node has a mask and a mark that
-// shows it, and no more stands in the queue than it has room for.
+// The nodes of which a queue tells. Where more fall in one sweep than half of them, another sweep costs less than a look at all nodes
+// before them.
+pub(crate) const QUEUE: usize = 4096;
+
+// The masks that bits go out of, over a game's arrays; the marks by which the walk counts a node without a mask as fallen; and a queue of
+// nodes that fell, as far as it has room, which only tells which nodes are worth another look. The level is small and has an action, and
+// each node has a mask and a mark that shows it.
 #[derive(Drop)]
 pub struct Pruning<'a, 'm> {
     pub arena: &'a Arena<'a>,
     pub moves: &'a Moves,
     pub masks: &'m mut [u8],
     pub marks: &'m mut [u16],
-    pub queue: &'m mut [u16],
-    pub tail: usize,
+    pub queue: ArrayVec<u16, QUEUE>,
     ghost sized: { IsSized arena.now },
     ghost some_action: { 0 < arena.now.level.actions },
     ghost nodes: { length masks.now ≡ arena.now.level.nodes },
     ghost marks_room: { arena.now.level.nodes ≤ length marks.now },
     ghost shown: { Shown masks.now marks.now },
-    ghost inside: { tail ≤ length queue.now },
 }
 
 impl Pruning<'_, '_> {
     ghost use Rattle.prune.specs.code.Views.{Left, CutOnce};
 
     // What is left of node k's mask is stored. A node whose mask is gone joins the queue. The mask and its mark are written through
-    // references of their own, since after a write through self's alone the marks would have to show the masks at once.
+    // references of their own, since after a write through self's alone the marks would have to show the masks at once. A node's number is
+    // below 16,384, so the cast loses nothing.
     #[tactic(auto, using(crate::proofs::PruneCode::leaving))]
     fn leave(&mut self, k: usize, rest: u8)
         requires { k < self.old.arena.now.level.nodes }
@@ -41,14 +44,13 @@ impl Pruning<'_, '_> {
         let marks = &mut *self.marks;
         masks[k] = rest;
         marks[k] = mark_for(usize::from(rest));
-        let tail = self.tail;
-        if rest == 0 && tail < self.queue.len() {
-            self.queue[tail] = k as u16;
-            self.tail = tail + 1;
+        if rest == 0 && !self.queue.is_full() {
+            self.queue.push(k as u16);
         }
     }
 
-    // Node k keeps the part of its mask that may stand by the marks. Says whether it had more.
+    // Node k keeps the part of its mask that may stand by the marks. Says whether it had more. A part of a mask has at most 8 bits, so the
+    // cast loses nothing.
     #[tactic(auto, using(crate::proofs::PruneCode::cutting))]
     pub(crate) fn cut(&mut self, k: usize) -> bool
         requires { k < self.old.arena.now.level.nodes }

@@ -4,24 +4,21 @@ ghost use Rattle.walk.specs.code.Arenas.{arena_in};
 ghost use Rattle.prune.specs.code.Pruning.{Pruned, PrunedOver};
 ghost use Rattle.prune.specs.code.Views.{Swept, SweptOn};
 
-use crate::cut::Pruning;
+use crate::cut::{Pruning, QUEUE};
 use crate::strike::{MOVES_ROW, note_moves};
+use arrayvec::ArrayVec;
 use rule::part::fill_marks;
 use sheet::limits::{MOST_NODES, ROWS};
 use walk::arena::Arena;
 
-// The nodes of which a queue tells. Where more fall in one sweep than half of them, another sweep costs less than a look at all nodes
-// before them.
-const QUEUE: usize = 4096;
-
 impl Pruning<'_, '_> {
     // Every node keeps the part of its mask that may stand, by what has fallen when it is met. Says whether a mask had more; the nodes
-    // that fell stand in the queue.
+    // that fell stand in the queue. By index, as a cut writes the masks meanwhile, and not by `any`, which would stop at the first.
     #[tactic(auto, using(crate::proofs::PruneCode::sweeping))]
     fn sweep(&mut self) -> bool
         ensures { Swept self.old self.old.arena.now.level.nodes self.new result }
     {
-        self.tail = 0;
+        self.queue.clear();
         let mut changed = false;
         for k in 0..self.masks.len() {
             changed |= self.cut(k);
@@ -36,7 +33,7 @@ impl Pruning<'_, '_> {
         if !self.sweep() {
             return false;
         }
-        if self.tail <= self.queue.len() / 2 {
+        if self.queue.len() <= QUEUE / 2 {
             self.drain();
         }
         true
@@ -51,18 +48,16 @@ impl Pruning<'_, '_> {
     }
 }
 
-// The largest part of the masks that the judging rule allows. Nothing is done where the level is too large or has no action, or there is
-// not one mask for each node.
+// The largest part of the masks that the judging rule allows. Nothing is done where the level is too large or there is not one mask for
+// each node, or where it has no action.
 #[tactic(auto, using(crate::proofs::PruneCode::pruning))]
 pub fn prune(arena: &Arena, masks: &mut [u8])
     ensures { PrunedOver arena.now masks.old masks.new }
 {
-    let level = arena.level;
-    if !level.is_sized(arena.positions.len()) || level.actions < 1 || masks.len() != level.nodes {
+    if !arena.is_fitted(masks.len()) || arena.level.actions < 1 {
         return;
     }
     let mut marks = [0u16; MOST_NODES];
-    let mut queue = [0u16; QUEUE];
     let mut moves = [[0u8; MOVES_ROW]; ROWS];
     fill_marks(masks, &mut marks);
     note_moves(arena.moves, &mut moves);
@@ -71,8 +66,7 @@ pub fn prune(arena: &Arena, masks: &mut [u8])
         moves: &moves,
         masks,
         marks: &mut marks,
-        queue: &mut queue,
-        tail: 0,
+        queue: ArrayVec::new(),
     };
     pruning.sweep_all();
 }

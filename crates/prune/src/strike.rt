@@ -1,6 +1,7 @@
 // Looking again at the nodes before those that have fallen. A sweep would find them too, so this decides nothing but the time: where one
 // node falls after another, each is met at once and not a whole sweep later. So nothing is promised of the moves that are noted here, and
-// of the masks no more than that bits went out of them which the rule does not allow.
+// of the masks no more than that bits went out of them which the rule does not allow. No cast here loses anything: a game has at most 256
+// positions and 8 actions, and a level at most 16,384 nodes.
 ghost use Rattle.std.specs.Prelude.{◌≤◌, ◌<◌};
 ghost use Rattle.sheet.specs.Limits.{most_actions, most_nodes};
 ghost use Rattle.prune.specs.code.Views.{Goes};
@@ -24,9 +25,7 @@ fn is_move(moves: &Moves, q: u8, r: u8) -> bool {
 // Notes the moves of the U body.
 pub(crate) fn note_moves(u: &[u8], moves: &mut Moves) {
     let (lines, _) = u.as_chunks::<2>();
-    for line in lines {
-        let q = line[0];
-        let r = line[1];
+    for &[q, r] in lines {
         let row = &mut moves[usize::from(r)];
         row[usize::from(q / 8)] |= 1 << (q % 8);
     }
@@ -44,6 +43,13 @@ pub struct Spot {
     pub action: Option<u8>,
 }
 
+// An own cell: a position and an action there.
+#[derive(Clone, Copy)]
+pub struct Cell {
+    pub from: u8,
+    pub action: u8,
+}
+
 impl Spot {
     fn new(level: Level, j: usize) -> Spot
         requires { (0 < level.words) × (level.words ≤ most_nodes) × (0 < level.actions) × (level.actions ≤ most_actions) }
@@ -55,51 +61,52 @@ impl Spot {
             words: level.words as u16,
             younger: (level.words / level.actions) as u16,
             rest: (word / level.actions) as u16,
-            action: if level.words == 1 { None } else { Some(action) },
+            action: (level.words != 1).then_some(action),
         }
     }
 
-    // The node of position q whose oldest action is h.
-    fn node(&self, q: u8, h: u8) -> usize {
-        usize::from(q) * usize::from(self.words)
-            + usize::from(h) * usize::from(self.younger)
+    // The node of a cell: of its position, with its action as the oldest.
+    fn node(&self, cell: Cell) -> usize {
+        usize::from(cell.from) * usize::from(self.words)
+            + usize::from(cell.action) * usize::from(self.younger)
             + usize::from(self.rest)
     }
 
     // Does that node's mask have the action by which it leads to the fallen one?
-    fn leads_by(&self, mask: u8, h: u8) -> bool {
-        let action = self.action.unwrap_or(h);
+    fn leads_by(&self, mask: u8, cell: Cell) -> bool {
+        let action = self.action.unwrap_or(cell.action);
         (mask >> (action % 8)) % 2 == 1
     }
 }
 
 impl Pruning<'_, '_> {
-    // The node of position q whose oldest action is h is looked at again, where it has the action that leads to the fallen one.
-    fn strike(&mut self, spot: &Spot, q: u8, h: u8)
+    // The node of a cell is looked at again, where it has the action that leads to the fallen one.
+    fn strike(&mut self, spot: &Spot, cell: Cell)
         ensures { Goes self.old self.new }
     {
-        let k = spot.node(q, h);
-        if k < self.masks.len() && spot.leads_by(self.masks[k], h) {
+        let k = spot.node(cell);
+        if k < self.masks.len() && spot.leads_by(self.masks[k], cell) {
             self.cut(k);
         }
     }
 
-    // Odd delays: a move leads to position s, from where action h leads to the fallen node's. Not inlined: few cells come here, and the
-    // search among all of them keeps its numbers in registers.
+    // Odd delays: a move leads to a cell, which leads to the fallen node's position. Not inlined: few cells come here, and the search among
+    // all of them keeps its numbers in registers. By index, as the positions' numbers alone are wanted.
     #[inline(never)]
-    fn strike_sources(&mut self, spot: &Spot, s: u8, h: u8)
+    fn strike_sources(&mut self, spot: &Spot, cell: Cell)
         ensures { Goes self.old self.new }
     {
         for q in 0..self.arena.positions.len() {
             let q = q as u8;
-            if is_move(self.moves, q, s) {
-                self.strike(spot, q, h);
+            if is_move(self.moves, q, cell.from) {
+                self.strike(spot, Cell { from: q, ..cell });
             }
         }
     }
 
-    // Action h leads from position s to t, where that is one. Even delays: a move leads from there to the fallen node's position.
-    fn strike_cell(&mut self, spot: &Spot, s: u8, h: u8, t: u16)
+    // A cell leads to t, where that is a position: the mark of an absent target is more than a byte holds. `target` would test again the
+    // bounds that the loop over rows keeps. Even delays: a move leads from there to the fallen node's position.
+    fn strike_cell(&mut self, spot: &Spot, cell: Cell, t: u16)
         ensures { Goes self.old self.new }
     {
         let Ok(t) = u8::try_from(t) else {
@@ -107,10 +114,10 @@ impl Pruning<'_, '_> {
         };
         if self.arena.level.odd {
             if t == spot.at {
-                self.strike_sources(spot, s, h);
+                self.strike_sources(spot, cell);
             }
         } else if is_move(self.moves, t, spot.at) {
-            self.strike(spot, s, h);
+            self.strike(spot, cell);
         }
     }
 
@@ -119,7 +126,11 @@ impl Pruning<'_, '_> {
         ensures { Goes self.old self.new }
     {
         for (h, &t) in row.iter().enumerate() {
-            self.strike_cell(spot, s, h as u8, t);
+            let cell = Cell {
+                from: s,
+                action: h as u8,
+            };
+            self.strike_cell(spot, cell, t);
         }
     }
 
@@ -142,7 +153,7 @@ impl Pruning<'_, '_> {
         ensures { Goes self.old self.new }
     {
         let mut at: usize = 0;
-        while at < self.tail {
+        while at < self.queue.len() {
             let j = usize::from(self.queue[at]);
             self.strike_before(j);
             at += 1;

@@ -1,16 +1,16 @@
 -- Checks 2 to 7, as the code of src/checks.rt, lines.rt and reading.rt finds them. Assumes nothing.
-use Prim.Native.Nat.{ℕ, ◌+◌, ◌*◌, ◌/◌, ◌%◌, ◌≤◌, ◌<◌, ◌^◌}
+use Prim.Native.Nat.{ℕ, zero, suc, ◌+◌, ◌-◌, ◌*◌, ◌/◌, ◌%◌, ◌≤◌, ◌<◌, ◌^◌}
 use mathlib.Core.Path.{◌≡◌, refl, sym, ◌∙◌, ap}
 use mathlib.Core.Bool.{Bool, true, false, cond}
 use mathlib.Core.List.{List, []}
 use native.Mathlib.Omega.{arith}
 use native.Mathlib.Nat.{mul-le-mul_left, le_of_lt, mul-le-mul_right, zero-mul}
 use native.Mathlib.Numerals.{add-one}
-use lib.Dec.{leb}
+use lib.Dec.{leb, ltb}
 use lib.ListN.{length, get_or, set, replicate}
 use borrow.Author.Tests.{le-leb, lt-leb, lt-ltb, eq-eqb, ne_eqb, leb-false}
-use Rattle.theory.specs.Fold.{either, all_below, any_below, tabulate}
-use Rattle.theory.proofs.Fold.{all_same, either_right, either_first, any_suc, both_second}
+use Rattle.theory.specs.Fold.{both, either, all_below, any_below, tabulate}
+use Rattle.theory.proofs.Fold.{all_same, all_at, all_below_lem, all_fails, same_test, either_right, either_first, either_second, any_suc, both_second, both_true, both_none, both_left, both_right}
 use Rattle.theory.proofs.Fold.{get_d_tabulate, tabulate_set, bool, below?}
 use Rattle.std.specs.Prelude.{Option, Some, None, is_some}
 use Rattle.sheet.specs.Kinds.{kind_of, kind_at, is_known, known_at}
@@ -18,7 +18,9 @@ use Rattle.sheet.specs.declared.kinds.Kind.{Kind}
 use Rattle.sheet.proofs.ChunkLaws.{chunk_entry}
 use Rattle.std.specs.Simd.{first_chunks}
 use Rattle.std.proofs.lemmas.List.{get_or_default}
-use Rattle.reader.specs.Checks.{target_ok, targets_ok, move_ok, moves_ok, begins_at, has_line, leaves_at, all_leave, positions_ok, size_ok}
+use Rattle.sheet.specs.Kinds.{controller_at, environment_at}
+use Rattle.std.specs.List.{IsAllAdjacentAnswer}
+use Rattle.reader.specs.Checks.{key_at, rises_at, target_ok, targets_ok, move_ok, moves_ok, begins_at, has_line, leaves_at, all_leave, positions_ok, size_ok}
 use Rattle.sheet.specs.Size.{nodes_of}
 use Rattle.reader.specs.code.Steps.{leaves_by}
 use Rattle.sheet.specs.code.Steps.{power_to, most_power}
@@ -41,19 +43,123 @@ module _ (p : List ℕ) where
   unfolding positions_ok
   positions_all l m e = e ∙ sym (both_second _ _ (le-leb _ _ l) ∙ both_second _ _ (le-leb _ _ m))
 
+-- checks 4 and 5: lines of w bytes as arrays. Two are in order by their keys, and what holds of each is p by index
+
+abbrev pub key_below : List ℕ → List ℕ → Bool
+key_below x y = ltb (key_at x 0) (key_at y 0)
+
+module _ (w : ℕ) (b : List ℕ) (xs : List (List ℕ)) (whole : xs ≡ first_chunks w (length b / w) b) (size : length xs ≡ length b / w) where
+  line_entry : (k j : ℕ) → k < length xs → j < w → get_or (get_or xs k []) j 0 ≡ get_or b (w * k + j) 0
+  line_entry k j h l = rw whole (chunk_entry w (length b / w) b k j (w * k + j) (omega (arith, size)) l refl)
+
+  module _ (n : 1 < w) where
+    line_key : (k : ℕ) → k < length xs → key_at (get_or xs k []) 0 ≡ key_at b (w * k)
+    unfolding key_at
+    line_key k h =
+        let z : w * k + 0 ≡ w * k = omega arith in
+        let first : get_or (get_or xs k []) 0 0 ≡ get_or b (w * k) 0 = line_entry k 0 h (omega arith) ∙ ap (λ i. get_or b i 0) z in
+        rw (first, line_entry k 1 h n)
+
+    line_rises : (k : ℕ) → k + 1 < length xs → key_below (get_or xs k []) (get_or xs (k + 1) []) ≡ rises_at w b (k + 1)
+    unfolding rises_at
+    line_rises k h =
+        let z : k + 1 - 1 ≡ k = omega arith in
+        rw (line_key k (omega arith), line_key (k + 1) h, z) (sym (either_second _ _ (ne_eqb _ _ (λ e. omega arith))))
+
+    lines_rise : (r : Bool) → IsAllAdjacentAnswer (λ x y t. t ≡ key_below x y) xs r → r ≡ all_below (rises_at w b) (length b / w)
+    unfolding rises_at either
+    lines_rise true h = sym (all_below_lem (rises_at w b) (length b / w) at)
+      where
+        at : (k : ℕ) → k < length b / w → rises_at w b k ≡ true
+        at zero l = refl
+        at (suc k) l =
+            let z : k + 1 ≡ suc k = omega arith in
+            ap (rises_at w b) (sym z) ∙ sym (h k [] (omega (arith, size)) ∙ line_rises k (omega (arith, size)))
+    lines_rise false h = sym (all_fails (rises_at w b) (h.0 + 1) (length b / w) (omega (arith, size, h.1)) (sym (h.2 [] ∙ line_rises h.0 h.1)))
+
+    module _ (p : ℕ → Bool) {t : Bool} (ok : both (all_below (rises_at w b) (length b / w)) (all_below p (length b / w)) ≡ t) {r : Bool}
+        (order : IsAllAdjacentAnswer (λ x y t. t ≡ key_below x y) xs r) where
+      pub unordered : r ≡ false → r ≡ t
+      unordered f = f ∙ sym (both_none _ _ (sym (lines_rise r order) ∙ f)) ∙ ok
+
+      pub ordered : r ≡ true → {o : Bool} → o ≡ all_below p (length xs) → o ≡ t
+      ordered f e = e ∙ ap (all_below p) size ∙ sym (both_second _ _ (sym (lines_rise r order) ∙ f)) ∙ ok
+
+all_both : (p q t : ℕ → Bool) (n : ℕ) → ((k : ℕ) → both (p k) (q k) ≡ t k) → both (all_below p n) (all_below q n) ≡ all_below t n
+all_both p q t n same =
+    same_test _ _
+    (λ e. all_below_lem t n (λ k h. sym (same k) ∙ both_true _ _ (all_at p n (both_left _ _ e) k h) (all_at q n (both_right _ _ e) k h)))
+    (λ e.
+    both_true _ _
+    (all_below_lem p n (λ k h. both_left _ _ (same k ∙ all_at t n e k h)))
+    (all_below_lem q n (λ k h. both_right _ _ (same k ∙ all_at t n e k h))))
+
+both_swap : (a b : Bool) → both a b ≡ both b a
+unfolding both
+both_swap true true = refl
+both_swap true false = refl
+both_swap false true = refl
+both_swap false false = refl
+
+both_within : (a b c : Bool) → both (both a b) c ≡ both a (both b c)
+unfolding both
+both_within true b c = refl
+both_within false b c = refl
+
 -- check 4
 
-module _ (p : List ℕ) (a : ℕ) (c : List ℕ) where
-  pub targets_all : {r : Bool} → length c % 3 ≡ 0 → r ≡ all_below (target_ok p a c) (length c / 3) → r ≡ targets_ok p a c
-  unfolding targets_ok
-  targets_all e f = f ∙ sym (both_second _ _ (eq-eqb _ _ e))
+module _ (p : List ℕ) (a : ℕ) where
+  -- from the controller's side to the environment's, by an action
+  abbrev pub target_sides : ℕ → ℕ → ℕ → Bool
+  target_sides from action to = both (controller_at p from) (both (ltb action a) (environment_at p to))
+
+  abbrev pub target_line : List ℕ → Bool
+  target_line x = target_sides (get_or x 0 0) (get_or x 1 0) (get_or x 2 0)
+
+  module _ (c : List ℕ) where
+    abbrev pub target_sided : ℕ → Bool
+    target_sided k = target_sides (get_or c (3 * k) 0) (get_or c (3 * k + 1) 0) (get_or c (3 * k + 2) 0)
+
+    pub target_same : (xs : List (List ℕ)) → xs ≡ first_chunks 3 (length c / 3) c → length xs ≡ length c / 3 → (k : ℕ) → k < length xs
+        → target_line (get_or xs k []) ≡ target_sided k
+    target_same xs whole size k h =
+        let z : 3 * k + 0 ≡ 3 * k = omega arith in
+        let at = line_entry 3 c xs whole size k in
+        rw (at 0 h (omega arith), at 1 h (omega arith), at 2 h (omega arith), z) refl
+
+    pub targets_are : length c % 3 ≡ 0 → both (all_below (rises_at 3 c) (length c / 3)) (all_below target_sided (length c / 3)) ≡ targets_ok p a c
+    unfolding targets_ok target_ok
+    targets_are e =
+        all_both (rises_at 3 c) target_sided (target_ok p a c) (length c / 3)
+        (λ k. both_swap _ _ ∙ both_within _ _ _ ∙ ap (both (controller_at p (get_or c (3 * k) 0))) (both_within _ _ _))
+        ∙ sym (both_second _ _ (eq-eqb _ _ e))
 
 -- check 5
 
-module _ (p u : List ℕ) where
-  pub moves_all : {r : Bool} → length u % 2 ≡ 0 → length u / 2 ≤ most_moves → r ≡ all_below (move_ok p u) (length u / 2) → r ≡ moves_ok p u
-  unfolding moves_ok
-  moves_all e m f = f ∙ sym (both_second _ _ (eq-eqb _ _ e) ∙ both_second _ _ (le-leb _ _ m))
+module _ (p : List ℕ) where
+  abbrev pub move_sides : ℕ → ℕ → Bool
+  move_sides from to = both (environment_at p from) (controller_at p to)
+
+  abbrev pub move_line : List ℕ → Bool
+  move_line x = move_sides (get_or x 0 0) (get_or x 1 0)
+
+  module _ (u : List ℕ) where
+    abbrev pub move_sided : ℕ → Bool
+    move_sided k = move_sides (get_or u (2 * k) 0) (get_or u (2 * k + 1) 0)
+
+    pub move_same : (xs : List (List ℕ)) → xs ≡ first_chunks 2 (length u / 2) u → length xs ≡ length u / 2 → (k : ℕ) → k < length xs
+        → move_line (get_or xs k []) ≡ move_sided k
+    move_same xs whole size k h =
+        let z : 2 * k + 0 ≡ 2 * k = omega arith in
+        let at = line_entry 2 u xs whole size k in
+        rw (at 0 h (omega arith), at 1 h (omega arith), z) refl
+
+    pub moves_are : length u % 2 ≡ 0 → length u / 2 ≤ most_moves
+        → both (all_below (rises_at 2 u) (length u / 2)) (all_below move_sided (length u / 2)) ≡ moves_ok p u
+    unfolding moves_ok move_ok
+    moves_are e m =
+        all_both (rises_at 2 u) move_sided (move_ok p u) (length u / 2) (λ k. both_swap _ _ ∙ both_within _ _ _)
+        ∙ sym (both_second _ _ (eq-eqb _ _ e) ∙ both_second _ _ (le-leb _ _ m))
 
 -- check 6
 

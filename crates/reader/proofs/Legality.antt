@@ -12,8 +12,8 @@ use Rattle.theory.specs.Fold.{both}
 use Rattle.theory.specs.Answer.{accepted}
 use Rattle.theory.specs.Game.{Target, absent, to, Legal, LegalTarget, LegalMove}
 use Rattle.theory.specs.Holding.{held}
-use Rattle.theory.proofs.Holding.{which, completed_legal}
-use Rattle.theory.proofs.Turns.{absent_not_to}
+use Rattle.theory.proofs.Holding.{completed_legal}
+use Rattle.theory.proofs.Turns.{absent_not_to, target_cases}
 use Rattle.theory.proofs.Fold.{bool, not_both, both_true, both_left, both_right, all_at, any_some, below_cases, below?, either_second}
 use Rattle.std.specs.Prelude.{Option, None, Some}
 use Rattle.sheet.specs.Kinds.{kind_at, is_controller, is_environment, controller_at, environment_at}
@@ -288,7 +288,7 @@ module _ (s : List ℕ) (r : Checked s) where
       let position : p < most_positions = omega (arith, l.from_position, (ranges s r).few_positions) in
       let action : x < most_actions = omega (arith, l.action, (ranges s r).few_actions) in
       absurd (not_both (both_true _ _ (lt-ltb _ _ position) (lt-ltb _ _ action)) f))
-      (which (target_of (targets_body s) p x))
+      (target_cases (target_of (targets_body s) p x))
 
   inside : (p x : ℕ) → p < most_positions → x < most_actions
       → target_of (targets_body s) p x ≡ unmark (get_or (get_or (grid_of (targets_body s)) p []) x 0)
@@ -328,12 +328,6 @@ module _ (s : List ℕ) (r : Checked s) where
   pub moves_rise : (k : ℕ) → suc k < length (moves_body s) / 2 → key_at (moves_body s) (2 * k) < key_at (moves_body s) (2 * suc k)
   moves_rise k h =
       rises_next 2 (moves_body s) k (environment_line (positions_body s) (moves_body s) r.moves (suc k) h).rises
-
-  pub targets_rise : (k : ℕ) → suc k < length (targets_body s) / 3
-      → key_at (targets_body s) (3 * k) < key_at (targets_body s) (3 * suc k)
-  targets_rise k h =
-      rises_next 3 (targets_body s) k
-      (target_line (positions_body s) (action_count s) (targets_body s) r.targets (suc k) h).rises
 
   -- so the positions that its lines begin with never fall
   pub moves_ordered : (k : ℕ) → suc k < length (moves_body s) / 2 → get_or (moves_body s) (2 * k) 0 ≤ get_or (moves_body s) (2 * suc k) 0

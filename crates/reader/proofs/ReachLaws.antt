@@ -3,12 +3,12 @@ use Prim.Native.Nat.{ℕ, suc, ◌+◌, ◌-◌, ◌*◌, ◌≤◌, ◌<◌}
 use mathlib.Core.Path.{◌≡◌, refl, sym, ◌∙◌, ap, subst, fun_ext}
 use mathlib.Core.Bool.{Bool, true, false}
 use mathlib.Core.Logic.{◌⊎◌, ⊎_elim}
-use mathlib.Core.List.{List}
+use mathlib.Core.List.{List, [], ◌∷◌, ◌++◌}
 use native.Mathlib.Omega.{arith}
 use native.Mathlib.Numerals.{add-one}
 use lib.Dec.{eqb}
-use lib.ListN.{length, get_or, set, replicate, length-set, length-replicate, get_or-replicate, get_or-eq_default}
-use lib.Seq.{get_or-set_same, get_or-set_other, ext_get_or}
+use lib.ListN.{length, length-append, get_or-append, get_or, set, replicate, length-set, length-replicate, get_or-replicate, get_or-eq_default}
+use lib.Seq.{get_or-append-add, get_or-set_same, get_or-set_other, ext_get_or}
 use borrow.Author.Rules.{rules}
 use borrow.Author.Tests.{eqb-true, eq-eqb, ne_eqb}
 use Rattle.theory.specs.Fold.{either, any_below, any_of, tabulate, count}
@@ -27,6 +27,7 @@ use Rattle.reader.specs.code.Steps.{Checked}
 use Rattle.sheet.specs.code.Arrays.{target_at, firsts_of, to_at, tos_between, view_of, bodies_game}
 use Rattle.reader.specs.code.Reaching.{queue_of, marked, Queued, marks_with, Grown, is_position, by_action_in, by_line, by_move_in}
 use Rattle.reader.specs.declared.reach.Queue.{Queue}
+use Rattle.arrayvec.specs.ArrayVec.{ArrayVec}
 use Rattle.reader.proofs.Accepted.{ranges}
 use Rattle.reader.proofs.Legality.{legal}
 use Rattle.reader.proofs.Bodies.{bodies_game_lem}
@@ -92,7 +93,7 @@ grown_join f g h u v w a b e =
 
 -- a position without a mark joins at the end
 
-module _ (m : List Bool) (q : List ℕ) (n t : ℕ) (w : Queued (queue_of m q n)) (h : t < most_positions) (f : get_or m t false ≡ false) where
+module _ (m : List Bool) (old : ArrayVec ℕ) (t : ℕ) (w : Queued (queue_of m old)) (h : t < most_positions) (f : get_or m t false ≡ false) where
   mark_here : marked (set m t true) t ≡ true
   unfolding marked
   mark_here = get_or-set_same m t true false (rw w.marks_length h)
@@ -101,67 +102,73 @@ module _ (m : List Bool) (q : List ℕ) (n t : ℕ) (w : Queued (queue_of m q n)
   unfolding marked
   mark_there r d = get_or-set_other m t r true false d
 
-  one_more : count (marked (set m t true)) most_positions ≡ n + 1
+  one_more : count (marked (set m t true)) most_positions ≡ length old.items + 1
   unfolding marked
   one_more =
       count_more (marked m) (marked (set m t true)) t most_positions h f mark_here mark_there ∙ ap (λ k. k + 1) (sym w.number)
 
-  pub join_room : n < most_positions
+  join_room : length old.items < most_positions
   join_room = omega (arith, one_more, count_le (marked (set m t true)) most_positions)
 
   mark_stays : (r : ℕ) → marked m r ≡ true → marked (set m t true) r ≡ true
   mark_stays r e =
       ⊎_elim (λ (s : r ≡ t). ap (marked (set m t true)) s ∙ mark_here) (λ (d : r ≡ t → ⊥). mark_there r d ∙ e) (same? r t)
 
-  entry_here : get_or (set q n t) n 0 ≡ t
-  entry_here = get_or-set_same q n t 0 (rw w.entries_length join_room)
+  module _ (new : ArrayVec ℕ) (e : new.items ≡ old.items ++ t ∷ []) where
+    longer : length new.items ≡ length old.items + 1
+    longer = ap length e ∙ length-append old.items (t ∷ [])
 
-  entry_there : (i : ℕ) → i < n → get_or (set q n t) i 0 ≡ get_or q i 0
-  entry_there i l = get_or-set_other q n i t 0 (λ e. omega arith)
+    entry_here : get_or new.items (length old.items) 0 ≡ t
+    entry_here = let z : length old.items + 0 ≡ length old.items = omega arith in rw e (rw z at (get_or-append-add old.items (t ∷ []) 0 0))
 
-  joined : Queued (queue_of (set m t true) (set q n t) (n + 1))
-  joined =
-      record {
-        marks_length = length-set m t true ∙ w.marks_length;
-        entries_length = length-set q n t ∙ w.entries_length;
-        number = sym one_more;
-        holds = holds;
-        has = has;
-      }
-    where
-      holds : (i : ℕ) → i < n + 1 → marked (set m t true) (get_or (set q n t) i 0) ≡ true
-      holds i l =
-          ⊎_elim
-          (λ (b : i < n). ap (marked (set m t true)) (entry_there i b) ∙ mark_stays _ (w.holds i b))
-          (λ (b : n ≤ i).
-          let e : i ≡ n = omega arith in
-          ap (λ k. marked (set m t true) (get_or (set q n t) k 0)) e ∙ ap (marked (set m t true)) entry_here ∙ mark_here)
-          (below? i n)
+    entry_there : (i : ℕ) → i < length old.items → get_or new.items i 0 ≡ get_or old.items i 0
+    entry_there i l = rw e (get_or-append old.items (t ∷ []) 0 i l)
 
-      has : (r : ℕ) → marked (set m t true) r ≡ true → (i : ℕ) × (i < n + 1) × (get_or (set q n t) i 0 ≡ r)
-      has r e =
-          ⊎_elim
-          (λ (s : r ≡ t). (n, omega arith, entry_here ∙ sym s))
-          (λ (d : r ≡ t → ⊥).
-          let i = w.has r (sym (mark_there r d) ∙ e) in
-          (i.0, omega (arith, i.1), entry_there i.0 i.1 ∙ i.2))
-          (same? r t)
-
-  pub join_new : Grown (is_position t) (queue_of m q n) (queue_of (set m t true) (set q n t) (n + 1))
-  unfolding is_position
-  join_new =
-      record {
-        queued = joined;
-        marks =
-            marks_are (is_position t) m (set m t true) (length-set m t true ∙ w.marks_length)
-            (λ r l.
+    joined : Queued (queue_of (set m t true) new)
+    joined =
+        record {
+          marks_length = length-set m t true ∙ w.marks_length;
+          number = longer ∙ sym one_more;
+          holds = holds;
+          has = has;
+        }
+      where
+        holds : (i : ℕ) → i < length new.items → marked (set m t true) (get_or new.items i 0) ≡ true
+        holds i l =
             ⊎_elim
-            (λ (s : r ≡ t). ap (marked (set m t true)) s ∙ mark_here ∙ sym (either_right _ _ (eq-eqb r t s)))
-            (λ (d : r ≡ t → ⊥). mark_there r d ∙ sym (either_first _ _ (ne_eqb r t d)))
-            (same? r t));
-        no_fewer = omega arith;
-        kept = entry_there;
-      }
+            (λ (b : i < length old.items). ap (marked (set m t true)) (entry_there i b) ∙ mark_stays _ (w.holds i b))
+            (λ (b : length old.items ≤ i).
+            let e : i ≡ length old.items = omega (arith, longer) in
+            ap (λ k. marked (set m t true) (get_or new.items k 0)) e ∙ ap (marked (set m t true)) entry_here ∙ mark_here)
+            (below? i (length old.items))
+
+        has : (r : ℕ) → marked (set m t true) r ≡ true → (i : ℕ) × (i < length new.items) × (get_or new.items i 0 ≡ r)
+        has r e =
+            ⊎_elim
+            (λ (s : r ≡ t). (length old.items, omega (arith, longer), entry_here ∙ sym s))
+            (λ (d : r ≡ t → ⊥).
+            let i = w.has r (sym (mark_there r d) ∙ e) in
+            (i.0, omega (arith, longer, i.1), entry_there i.0 i.1 ∙ i.2))
+            (same? r t)
+
+    pub join_new : Grown (is_position t) (queue_of m old) (queue_of (set m t true) new)
+    unfolding is_position
+    join_new =
+        record {
+          queued = joined;
+          marks =
+              marks_are (is_position t) m (set m t true) (length-set m t true ∙ w.marks_length)
+              (λ r l.
+              ⊎_elim
+              (λ (s : r ≡ t). ap (marked (set m t true)) s ∙ mark_here ∙ sym (either_right _ _ (eq-eqb r t s)))
+              (λ (d : r ≡ t → ⊥). mark_there r d ∙ sym (either_first _ _ (ne_eqb r t d)))
+              (same? r t));
+          no_fewer = omega (arith, longer);
+          kept = entry_there;
+        }
+
+pub room : (w : Queue) (t : ℕ) → Queued w → t < most_positions → get_or w.marks t false ≡ false → length w.entries.items < most_positions
+room w t q h f = join_room w.marks w.entries t q h f
 
 -- nothing joins where there is no such position, or it has a mark
 
@@ -174,7 +181,7 @@ unfolding is_position marked
 join_marked w t q h =
     grown_same (is_position t) w q (λ r l e. ap (λ k. get_or w.marks k false) (eqb-true r t e) ∙ h)
 
-pub ruleset joining = (rules, join_none, join_marked)
+pub ruleset joining = (rules, room, join_new, join_none, join_marked)
 
 -- the targets of a position, action by action
 
@@ -230,18 +237,15 @@ module _ (u : List ℕ) (i : ℕ) where
   unfolding is_position to_at
   lines_more line h e f a b = grown_join _ _ _ _ _ _ a b (λ r l. rw (f, e) (line_next u i line r h))
 
-  same_lines : (line e : ℕ) → line - i ≡ e - i → by_line u i line ≡ by_line u i e
+  pub lines_done : (line e : ℕ) → line - i ≤ e - i → e ≤ line → by_line u i line ≡ by_line u i e
   unfolding by_line tos_between
-  same_lines line e s = ap (λ (k : ℕ). λ (r : ℕ). any_of (eqb r) (tabulate (to_at u) i k)) s
+  lines_done line e h k = ap (λ (k : ℕ). λ (r : ℕ). any_of (eqb r) (tabulate (to_at u) i k)) (omega arith)
 
-  pub lines_done : {line e : ℕ} {v w : Queue} → line - i ≤ e - i → e ≤ line → Grown (by_line u i line) v w → Grown (by_line u i e) v w
-  lines_done {line} {e} h k b = rw (same_lines line e (omega arith)) at b
-
-pub ruleset lining = (rules, lines_start, lines_more)
+pub ruleset lining = (rules, lines_start, lines_more, lines_done)
 
 -- one move of either side
 
-pub next_joined : (g : List (List ℕ)) (m f : List ℕ) (a q i e : ℕ) {u v w : Queue} → Grown (by_action_in g q a) u v
+next_joined : (g : List (List ℕ)) (m f : List ℕ) (a q i e : ℕ) {u v w : Queue} → Grown (by_action_in g q a) u v
     → i ≡ get_or f q 0 → e ≡ get_or f (q + 1) 0 → Grown (by_line m i e) v w → Grown (by_move_in g m f a q) u w
 unfolding by_move_in
 next_joined g m f a q i e x h k y =
@@ -250,13 +254,17 @@ next_joined g m f a q i e x h k y =
 
 -- the search
 
+queue_few : {w : Queue} → Queued w → length w.entries.items ≤ most_positions
+queue_few {w} h = omega (arith, h.number, count_le (marked w.marks) most_positions)
+
 -- the queue's positions lie on plays, the start is one, and the moves from the first n have been followed
 pub record Searched (G : Game) (w : Queue) (n : ℕ) : Type 0 where
   pub queued : Queued w
-  pub followed : n ≤ w.size
+  pub followed : n ≤ length w.entries.items
+  pub inside : length w.entries.items ≤ most_positions
   pub begins : marked w.marks G.start ≡ true
   pub sound : (r : ℕ) → marked w.marks r ≡ true → OnPlay G r
-  pub closed : (i : ℕ) → i < n → (r : ℕ) → leads G (get_or w.entries i 0) r ≡ true → marked w.marks r ≡ true
+  pub closed : (i : ℕ) → i < n → (r : ℕ) → leads G (get_or w.entries.items i 0) r ≡ true → marked w.marks r ≡ true
 
 module _ (G : Game) (legal : Legal G) (few : G.positions ≤ most_positions) where
   start_inside : G.start < most_positions
@@ -268,6 +276,7 @@ module _ (G : Game) (legal : Legal G) (few : G.positions ≤ most_positions) whe
       record {
         queued = a.queued;
         followed = omega arith;
+        inside = queue_few a.queued;
         begins =
             ap (λ (m : List Bool). marked m G.start) a.marks
             ∙ mark_with _ u.marks G.start start_inside
@@ -283,11 +292,12 @@ module _ (G : Game) (legal : Legal G) (few : G.positions ≤ most_positions) whe
           (λ (s : eqb r G.start ≡ true). record { play = origin; is_play = begun; ends = sym (eqb-true r G.start s) })
           (either_cases _ _ e)
 
-  search_next : (n q : ℕ) {v w : Queue} → Searched G v n → n < v.size → q ≡ get_or v.entries n 0 → Grown (leads G q) v w → Searched G w (n + 1)
+  search_next : (n q : ℕ) {v w : Queue} → Searched G v n → n < length v.entries.items → q ≡ get_or v.entries.items n 0 → Grown (leads G q) v w → Searched G w (n + 1)
   search_next n q {v} {w} s h e a =
       record {
         queued = a.queued;
         followed = omega (arith, a.no_fewer);
+        inside = queue_few a.queued;
         begins = grows G.start s.begins;
         sound = λ r m. on_play r (either_cases _ _ (mark_cases _ v.marks r (ap (λ (m : List Bool). marked m r) (sym a.marks) ∙ m)));
         closed = closed;
@@ -306,19 +316,19 @@ module _ (G : Game) (legal : Legal G) (few : G.positions ≤ most_positions) whe
       on_play : (r : ℕ) → (marked v.marks r ≡ true) ⊎ (leads G q r ≡ true) → OnPlay G r
       on_play r x = ⊎_elim (λ m. s.sound r m) (λ l. leads_on G q r l (s.sound q here)) x
 
-      closed : (i : ℕ) → i < n + 1 → (r : ℕ) → leads G (get_or w.entries i 0) r ≡ true → marked w.marks r ≡ true
+      closed : (i : ℕ) → i < n + 1 → (r : ℕ) → leads G (get_or w.entries.items i 0) r ≡ true → marked w.marks r ≡ true
       closed i l r m =
           ⊎_elim
           (λ (b : i < n). grows r (s.closed i b r (ap (λ p. leads G p r) (sym (a.kept i (omega arith))) ∙ m)))
           (λ (b : n ≤ i).
           let k : i ≡ n = omega arith in
-          let o : leads G q r ≡ true = ap (λ p. leads G p r) (e ∙ sym (a.kept n h) ∙ ap (λ j. get_or w.entries j 0) (sym k)) ∙ m in
+          let o : leads G q r ≡ true = ap (λ p. leads G p r) (e ∙ sym (a.kept n h) ∙ ap (λ j. get_or w.entries.items j 0) (sym k)) ∙ m in
           ap (λ (m : List Bool). marked m r) a.marks
           ∙ mark_with _ v.marks r (omega (arith, leads_inside G legal q r o))
           ∙ either_right _ _ o)
           (below? i n)
 
-  search_done : (n : ℕ) {w : Queue} → Searched G w n → w.size ≤ n → w.size ≡ reached G
+  search_done : (n : ℕ) {w : Queue} → Searched G w n → length w.entries.items ≤ n → length w.entries.items ≡ reached G
   search_done n {w} s h =
       s.queued.number
       ∙ count_short (marked w.marks) G.positions most_positions few outside
@@ -346,21 +356,17 @@ no_mark r =
     (λ (h : most_positions ≤ r). get_or-eq_default (replicate most_positions false) false {n = r} (rw (length-replicate most_positions false) h))
     (below? r most_positions)
 
-pub queue_empty : Queued (queue_of (replicate most_positions false) (replicate most_positions 0) 0)
-queue_empty =
+pub queue_empty : (e : ArrayVec ℕ) → e.items ≡ [] → Queued (queue_of (replicate most_positions false) e)
+queue_empty e none =
     record {
       marks_length = length-replicate most_positions false;
-      entries_length = length-replicate {A = ℕ} most_positions 0;
-      number = sym (count_short (marked (replicate most_positions false)) 0 most_positions (omega arith) (λ i h. no_mark i) ∙ count_nothing);
-      holds = λ i h. absurd (omega arith);
+      number = ap length none ∙ sym (count_short (marked (replicate most_positions false)) 0 most_positions (omega arith) (λ i h. no_mark i) ∙ count_nothing);
+      holds = λ i h. absurd (omega (arith, ap length none));
       has = λ r e. absurd (not_both e (no_mark r));
     }
   where
     count_nothing : count (marked (replicate most_positions false)) 0 ≡ 0
     count_nothing = omega (arith, count_le (marked (replicate most_positions false)) 0)
-
-pub queue_few : (m : List Bool) (q : List ℕ) (n i : ℕ) → Queued (queue_of m q n) → i < n → i < most_positions
-queue_few m q n i w h = omega (arith, w.number, count_le (marked m) most_positions)
 
 -- the search on a checked sheet
 
@@ -374,24 +380,25 @@ module _ (s : List ℕ) (r : Checked s) where
   unfolding leads bodies_game view_of by_move_in by_action_in by_line
   leads_read q = ap (λ (G : Game). leads G q) (bodies_game_lem s r)
 
-  pub reach_start : {h : List ℕ} {b t : ℕ} {w : Queue} → h ≡ body_of 2 s 0 → b ≡ get_or h 0 0 → t ≡ b
-      → Grown (is_position t) (queue_of (replicate most_positions false) (replicate most_positions 0) 0) w → Searched (game_of s) w 0
+  pub reach_start : (w : Queue) (v : ArrayVec ℕ) (t : ℕ) → t ≡ get_or (body_of 2 s 0) 0 0
+      → Grown (is_position t) (queue_of (replicate most_positions false) v) w → Searched (game_of s) w 0
   unfolding game_of start_of
-  reach_start x y z a = search_start (game_of s) (legal s r) few no_mark (rw (z, y, x) at a)
+  reach_start w v t e a = search_start (game_of s) (legal s r) few no_mark (rw e at a)
 
-  pub reach_next : (n q : ℕ) {c u f h : List ℕ} {g : List (List ℕ)} {o : Bool} {b a : ℕ} {v w : Queue} → c ≡ body_of 2 s 2 → u ≡ body_of 2 s 3
-      → o ≡ is_holding s → g ≡ held_grid o a c → f ≡ firsts_of u → h ≡ body_of 2 s 0 → b ≡ get_or h 1 0 → a ≡ b → Searched (game_of s) v n → n < v.size → q ≡ get_or v.entries n 0
-      → Grown (by_move_in g u f a q) v w → Searched (game_of s) w (n + 1)
+  pub reach_next : (n q i e a : ℕ) {u f : List ℕ} {g : List (List ℕ)} {v w x : Queue} → Searched (game_of s) v n → n < length v.entries.items
+      → g ≡ held_grid (is_holding s) a (body_of 2 s 2) → a ≡ get_or (body_of 2 s 0) 1 0 → u ≡ body_of 2 s 3 → f ≡ firsts_of u → q ≡ get_or v.entries.items n 0
+      → i ≡ get_or f q 0 → e ≡ get_or f (q + 1) 0 → Grown (by_action_in g q a) v w → Grown (by_line u i e) w x → Searched (game_of s) x (n + 1)
   unfolding action_count
-  reach_next n q {c} {u} {f} {h} {g} {o} {b} {a} {v} {w} ec eu eo eg ef eh eb ea x l e y =
-      search_next (game_of s) (legal s r) few n q x l e (rw (same ∙ leads_read q) at y)
+  reach_next n q i e a {u} {f} {g} {v} {w} {x} so_far more eg ea eu ef eq ei ee y z =
+      let joined : Grown (by_move_in g u f a q) v x = next_joined g u f a q i e y ei ee z in
+      search_next (game_of s) (legal s r) few n q so_far more eq (rw (same ∙ leads_read q) at joined)
     where
       same : by_move_in g u f a q
           ≡ by_move_in (held_grid (is_holding s) (get_or (header_body s) 1 0) (targets_body s)) (moves_body s) (firsts_of (moves_body s))
           (get_or (header_body s) 1 0) q
-      same = rw (eg, ef, ec, eu, eo, ea, eb, eh)
+      same = rw (eg, ef, eu, ea)
 
-  pub reach_done : (n : ℕ) {m : List Bool} {q : List ℕ} {k : ℕ} → Searched (game_of s) (queue_of m q k) n → k ≤ n → k ≡ reached (game_of s)
-  reach_done n x h = search_done (game_of s) (legal s r) few n x h
+  pub reach_done : (w : Queue) → Searched (game_of s) w (length w.entries.items) → length w.entries.items ≡ reached (game_of s)
+  reach_done w x = search_done (game_of s) (legal s r) few (length w.entries.items) x (omega arith)
 
-pub ruleset reaching = (rules, queue_empty, queue_few)
+pub ruleset reaching = (rules, reach_done)

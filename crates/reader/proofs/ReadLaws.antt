@@ -1,6 +1,6 @@
 -- What the code of src/reading.rt uses of the checks that passed, and check 7. Assumes nothing.
 use Prim.Native.Nat.{ℕ, ◌≤◌}
-use mathlib.Core.Path.{◌≡◌, sym, ◌∙◌, ap}
+use mathlib.Core.Path.{◌≡◌}
 use mathlib.Core.Bool.{Bool, true, false, not}
 use mathlib.Core.List.{List}
 use lib.ListN.{length}
@@ -11,6 +11,7 @@ use Rattle.theory.proofs.Fold.{both_left, both_right, failed, passed}
 use Rattle.sheet.specs.Form.{part_at, body_of}
 use Rattle.reader.specs.Checks.{positions_ok, size_ok}
 use Rattle.reader.specs.code.Steps.{Headed}
+use Rattle.sheet.proofs.RefusalLaws.{answer_accepted}
 use Rattle.reader.proofs.Accepted.{checked_is, ranges, carries_checked}
 use Rattle.std.specs.Prelude.{Result, Ok}
 use Rattle.sheet.specs.Refusals.{answer_of}
@@ -31,7 +32,7 @@ few_positions s p e h = rw e (leb-true _ _ (both_left _ _ (both_right _ _ h.posi
 module _ (s : List ℕ) (a : Result Layout Refusal) (e : answer_of a ≡ checked_answer s) where
   module _ (l : Layout) (f : a ≡ Ok l) where
     six_passed : checked_answer s ≡ accepted l
-    six_passed = sym e ∙ ap answer_of f
+    six_passed = answer_accepted a (checked_answer s) e l f
 
     pub few_read : (p : List ℕ) → p ≡ part_at s l.positions → length p ≤ most_positions
     few_read p g =

@@ -39,7 +39,7 @@ pub(crate) fn gates_ok(s: &[u8]) -> bool
     !is_gated(s) || matches!(body(s, 4), [0..=1])
 }
 
-// Check 7.
+// Check 7. By check 2 the cast loses nothing.
 #[tactic(auto, using(crate::proofs::CheckLaws::size_is))]
 pub(crate) fn size_ok(p: &[u8], actions: u8, delay: u8) -> bool
     requires { length p.now ≤ most_positions }

@@ -6,6 +6,7 @@ ghost use Rattle.reader.specs.code.Steps.{Checked};
 ghost use Rattle.sheet.specs.code.Steps.{most_power};
 ghost use Rattle.reader.specs.code.Reaching.{Queued, Grown, is_position, by_action_in, by_line};
 
+use arrayvec::ArrayVec;
 use gates::hold::grid_for;
 use gates::kind::is_holding;
 use sheet::form::{body, byte};
@@ -13,28 +14,29 @@ use sheet::grid::{Grid, target};
 use sheet::limits::ROWS;
 use sheet::moves::first_lines;
 
-// The positions found so far: each has a mark, and stands among the first entries once, in the order found.
+// The positions found so far: each has a mark, and stands among the entries once, in the order found. No ghost field says so: it
+// would keep that an entry stands somewhere and not where, and the proof asks where.
 #[derive(Drop)]
 struct Queue {
     marks: [bool; ROWS],
-    entries: [u8; ROWS],
-    size: usize,
+    entries: ArrayVec<u8, ROWS>,
 }
 
 impl Queue {
-    // A position joins, unless it has a mark; there is none at ROWS or above.
+    // A position joins, unless it has a mark; there is none at ROWS or above, so the cast loses nothing.
+    #[tactic(auto, using(crate::proofs::ReachLaws::joining))]
     fn join(&mut self, t: usize)
         requires { Queued self.old }
         ensures { Grown (is_position t) self.old self.new }
     {
         if t < ROWS && !self.marks[t] {
             self.marks[t] = true;
-            self.entries[self.size] = t as u8;
-            self.size += 1;
+            self.entries.push(t as u8);
         }
     }
 
-    // The targets of q join.
+    // The targets of q join. Here and below no chain of iterators: each step writes the queue.
+    #[tactic(auto, using(crate::proofs::ReachLaws::targeting))]
     fn join_targets(&mut self, grid: &Grid, actions: usize, q: usize)
         requires { Queued self.old }
         ensures { Grown (by_action_in grid.now q actions) self.old self.new }
@@ -47,6 +49,7 @@ impl Queue {
     }
 
     // What the lines of the U body from first up to end lead to joins.
+    #[tactic(auto, using(crate::proofs::ReachLaws::lining))]
     fn join_moves(&mut self, u: &[u8], first: usize, end: usize)
         requires { (Queued self.old) × (end < most_power) }
         ensures { Grown (by_line u.now first end) self.old self.new }
@@ -58,6 +61,7 @@ impl Queue {
 }
 
 // The number of positions on plays of a sheet that passes checks 1 to 6 and 24.
+#[tactic(auto, using(crate::proofs::ReachLaws::reaching))]
 pub(crate) fn reach(s: &[u8]) -> usize
     requires { Checked s.now }
     ensures { result ≡ reached (game_of s.now) }
@@ -69,17 +73,16 @@ pub(crate) fn reach(s: &[u8]) -> usize
     let firsts = first_lines(u);
     let mut queue = Queue {
         marks: [false; ROWS],
-        entries: [0; ROWS],
-        size: 0,
+        entries: ArrayVec::new(),
     };
     queue.join(usize::from(byte(h, 0)));
     // Not a `for`: the queue grows while its entries are looked at.
     let mut done = 0;
-    while done < queue.size {
+    while done < queue.entries.len() {
         let q = usize::from(queue.entries[done]);
         queue.join_targets(&grid, actions, q);
         queue.join_moves(u, usize::from(firsts[q]), usize::from(firsts[q + 1]));
         done += 1;
     }
-    queue.size
+    queue.entries.len()
 }

@@ -15,7 +15,8 @@ use sheet::limits::{MOST_ACTIONS, MOST_DELAY};
 use sheet::refusal::Refusal;
 
 // What an accepted reading carries: the start bytes, the places of the bodies, how many positions lie on plays, and whether the
-// gates hold.
+// gates hold. The sheet is no field: sheet and layout stay two, as `read` answers with the layout alone, and what holds of both is asked for
+// where it is used. Not joined with a table sheet's layout (table): start, actions and delay alone are in both.
 #[derive(Clone, Copy, Debug, PartialEq, Eq)]
 pub struct Layout {
     pub start: u8,
@@ -105,7 +106,7 @@ pub fn read_any(sheet: &[u8]) -> Result<Layout, Refusal>
 }
 
 // Reading a game sheet: those checks, and 7.
-#[tactic(auto, unfolding(crate::specs::Reading::read_answer, theory::specs::Answer::on_accepted))]
+#[tactic(auto, using(crate::proofs::ReadLaws::reads), unfolding(crate::specs::Reading::read_answer, theory::specs::Answer::on_accepted))]
 pub fn read(sheet: &[u8]) -> Result<Layout, Refusal>
     ensures { answer_of result ≡ read_answer sheet.now }
 {

@@ -17,26 +17,29 @@ use Rattle.theory.specs.Delay.{initial_words, arena, good_with, flags, flag_by}
 use Rattle.theory.proofs.Fold.{same_test, tabulate_zero, tabulate_same, length_tabulate}
 use Rattle.theory.proofs.Tables.{good_more}
 use Rattle.sheet.specs.Form.{part_at}
-use Rattle.sheet.specs.Bodies.{positions_body, start_of, delay_of}
+use Rattle.sheet.specs.Bodies.{positions_body, action_count, start_of, delay_of}
 use Rattle.reader.specs.code.Laid.{grid_at}
 use Rattle.reader.specs.Reading.{read_answer}
 use Rattle.sheet.specs.Refusals.{answer_of}
+use Rattle.sheet.proofs.RefusalLaws.{answer_accepted}
+use Rattle.sheet.proofs.SizeLaws.{few_first_words}
 use Rattle.sheet.specs.SheetGame.{game_of}
-use Rattle.sheet.specs.code.Arrays.{view_of, firsts_of, bodies_game}
+use Rattle.sheet.specs.code.Arrays.{view_of, firsts_of}
 use Rattle.sheet.specs.declared.refusal.Refusal.{Refusal}
 use Rattle.reader.specs.declared.reading.Layout.{Layout}
 use Rattle.std.proofs.Common.{Result, Ok, Err}
 use Rattle.reader.proofs.Accepted.{read_is, ranges, carries}
 use Rattle.reader.proofs.Legality.{controller_inside, legal_game}
 use Rattle.walk.specs.declared.level.Level.{Level}
+use Rattle.walk.proofs.NodeLaws.{filled_all}
 use Rattle.theory.proofs.Filling.{filled, filled_none, filled_more, filled_done}
 use Rattle.walk.specs.code.Levels.{level_at, level_to}
 use Rattle.region.specs.code.Kept.{good_in, first_words}
 use Rattle.theory.specs.Buffer.{over}
 use Rattle.region.specs.code.Flags.{flag_with, count_in, flags_count, flags_after}
 use Rattle.region.proofs.GoodLaws.{good_is, words_is}
-use Rattle.region.proofs.ReadLaws.{game_read, is_level, sized_read}
-use Rattle.sheet.specs.Limits.{most_positions}
+use Rattle.region.proofs.ReadLaws.{view_read, is_level, sized_read}
+use Rattle.sheet.specs.Limits.{most_positions, most_words}
 
 -- one flag is a test as a number
 
@@ -48,7 +51,7 @@ flag_from good v {r} {x} e q = q ∙ ap from_bool e ∙ by (good v)
     by true = refl
     by false = refl
 
-pub ruleset all_flags = (rules, filled_none, filled_more, filled_done, flag_from)
+pub ruleset all_flags = (rules, filled_none, filled_more, filled_all, flag_from)
 
 -- a sheet's flags
 
@@ -71,7 +74,7 @@ module _ (s : List ℕ) (rd : Result Layout Refusal) (e : answer_of rd ≡ read_
     is = is_level s rd e l a p ep v made
 
     answered : read_answer s ≡ accepted l
-    answered = sym e ∙ ap answer_of a
+    answered = answer_accepted rd _ e l a
 
     pub start_read : v.start < most_positions
     start_read =
@@ -84,8 +87,7 @@ module _ (s : List ℕ) (rd : Result Layout Refusal) (e : answer_of rd ≡ read_
 
     game_here : (g : List (List ℕ)) → g ≡ grid_at s l
         → view_of p g (part_at s l.moves) (firsts_of (part_at s l.moves)) l.start l.actions ≡ game_of s
-    unfolding bodies_game
-    game_here g eg = game_read s rd e l a p ep g (part_at s l.moves) eg refl
+    game_here g eg = view_read s rd e l a p ep g (part_at s l.moves) _ eg refl refl
 
     count_here : {n : ℕ} → n ≡ first_words v → n ≡ initial_words (game_of s) (delay_of s)
     count_here en =
@@ -163,6 +165,10 @@ module _ (G : Game) (legal : Legal G) (d : ℕ) (ranks : List ℕ) (front : take
   flags_final = tabulate_same _ _ 0 (initial_words G d) (λ v h. rw (good_same v h))
 
 -- for an accepted sheet, with room
+
+pub few_words : (s : List ℕ) (l : Layout) → read_answer s ≡ accepted l → initial_words (game_of s) (delay_of s) ≤ most_words
+unfolding initial_words game_of
+few_words s l e = let r = ranges s (read_is s l e).0 in few_first_words (action_count s) (delay_of s) r.few_actions r.short_delay
 
 pub words_counted : (s : List ℕ) (l : Layout) (room : ℕ) → read_answer s ≡ accepted l → initial_words (game_of s) (delay_of s) ≤ room
     → flags_count s room ≡ initial_words (game_of s) (delay_of s)

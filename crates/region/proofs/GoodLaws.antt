@@ -1,6 +1,6 @@
 -- Good first words, as the code of src/words.rt finds them, and that they are theory's. Assumes nothing.
 use Prim.Native.Nat.{ℕ, ◌+◌, ◌*◌, ◌/◌, ◌%◌, ◌^◌, ◌≤◌, ◌<◌, suc}
-use mathlib.Core.Path.{◌≡◌, refl, sym, ◌∙◌, ap, fun_ext}
+use mathlib.Core.Path.{◌≡◌, refl, ◌∙◌, ap, fun_ext}
 use mathlib.Core.Bool.{Bool, true, false}
 use mathlib.Core.List.{List}
 use native.Mathlib.Omega.{arith}
@@ -14,7 +14,7 @@ use Rattle.theory.specs.Fold.{any_below}
 use Rattle.theory.specs.Game.{Game}
 use Rattle.theory.specs.Rounds.{final_ranks, kept, kept_by}
 use Rattle.theory.specs.Delay.{odd, words, arena, good_by, good_from, good_with, winning, initial_words}
-use Rattle.theory.proofs.Fold.{any_none, any_holds, any_again, any_done, both_second, bool}
+use Rattle.theory.proofs.Fold.{both_second, bool}
 use Rattle.sheet.specs.code.Arrays.{view_of}
 use Rattle.walk.specs.declared.level.Level.{Level}
 use Rattle.walk.specs.code.Levels.{arena_of}
@@ -61,29 +61,6 @@ odd_fits v s e h =
     sum_fits (omega arith) (omega arith) (omega arith)
 
 pub ruleset fitting = (rules, node_fits, start_fits, even_fits, odd_fits)
-
--- a search for a good word
-
-module _ (p : List ℕ) (g : List (List ℕ)) (l : Level) (ranks : List ℕ) where
-  abbrev good : ℕ → Bool
-  good = good_in p g l ranks
-
-  pub good_found : {v n : ℕ} {r : Bool} → n ≡ first_words l → v < n → r ≡ good v → r ≡ true → true ≡ any_below good (first_words l)
-  good_found {v} {n} e h q t = sym (any_holds good v (first_words l) (rw e at h) (sym q ∙ t))
-
-  pub good_again : (v : ℕ) {r : Bool} → any_below good v ≡ false → r ≡ good v → r ≡ false → any_below good (v + 1) ≡ false
-  good_again v a q t = any_again good v a q t
-
-  pub good_none : {v n : ℕ} → n ≡ first_words l → v ≤ n → n ≤ v → any_below good v ≡ false → false ≡ any_below good (first_words l)
-  good_none {v} {n} e h k a = sym (any_done good (rw e at h) (rw e at k) a)
-
-  pub good_start : any_below good 0 ≡ false
-  good_start = any_none good
-
-  pub good_word_lem : {v n : ℕ} → n ≡ first_words l → v < n → v < first_words l
-  good_word_lem e h = rw e at h
-
-pub ruleset searching = (rules, good_found, good_again, good_none, good_start, good_word_lem)
 
 -- the same for any level (specs/code/Kept.antt, some_good): for those who know that the numbers are small
 

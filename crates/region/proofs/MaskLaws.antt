@@ -1,19 +1,22 @@
 -- The masks, as the code of src/masks.rt makes them. Assumes nothing.
-use Prim.Native.Nat.{ℕ, ◌+◌, ◌*◌, ◌%◌, ◌^◌, ◌≤◌, ◌<◌}
-use mathlib.Core.Path.{◌≡◌, sym, ◌∙◌, ap}
-use mathlib.Core.Bool.{Bool, true, false, not}
+use Prim.Native.Nat.{ℕ, zero, suc, ◌+◌, ◌-◌, ◌*◌, ◌/◌, ◌%◌, ◌^◌, ◌≤◌, ◌<◌}
+use mathlib.Core.Path.{◌≡◌, refl, sym, ◌∙◌, ap}
+use mathlib.Core.Bool.{Bool, true, false, not, cond}
 use mathlib.Core.List.{List}
 use native.Mathlib.Omega.{arith}
-use native.Mathlib.Nat.{pow-suc, mod-eq_of_lt}
-use native.Mathlib.Numerals.{add-one}
-use mir.Val.{Fits, bits}
-use mir.Syntax.{Width}
+use native.Mathlib.Nat.{mod-eq_of_lt}
+use mir.Val.{Fits, bool_byte as from_bool}
+use mir.Syntax.{w8, w64}
 use lib.Pow.{pow_mono, pow-lt}
+use lib.Dec.{eqb}
 use lib.ListN.{length}
 use borrow.Author.Rules.{rules}
-use Rattle.theory.specs.Fold.{tabulate}
-use Rattle.theory.specs.Rounds.{Arena, spoilt_by, mask_below}
-use Rattle.theory.proofs.Masks.{mask_next, mask_done, mask_lt}
+use borrow.Author.Tests.{eq-eqb, ne_eqb}
+use Rattle.theory.specs.Fold.{both}
+use Rattle.theory.specs.Rounds.{Arena, spoilt_by, kept_by, mask_below}
+use Rattle.theory.specs.Table.{bit}
+use Rattle.theory.proofs.Fold.{both_none, both_second}
+use Rattle.theory.proofs.Masks.{mask_next, mask_lt, full_bit}
 use Rattle.walk.specs.declared.level.Level.{Level}
 use Rattle.walk.specs.code.Levels.{arena_of}
 use Rattle.sheet.specs.code.Arrays.{view_of}
@@ -21,51 +24,77 @@ use Rattle.walk.specs.code.Nodes.{Sized}
 use Rattle.walk.specs.code.Walks.{fallen_by, spoilt_answer}
 use Rattle.walk.proofs.NodeLaws.{at_action, fitted}
 use Rattle.theory.proofs.Filling.{filled, filled_none, filled_more, filled_done}
-use Rattle.region.specs.code.Kept.{allowed_in, mask_in, masks_in, masks_after}
+use Rattle.region.specs.code.Kept.{on_side, allowed_in, mask_in, masks_in, masks_after}
+use Rattle.region.proofs.GoodLaws.{kept_is}
 use Rattle.sheet.specs.Limits.{most_actions}
 
--- the bit of action c, as code shifts it in a number of m values
+-- a bit that is set in a mask or is not
 
-pub bit_shifted : (c : ℕ) {a m : ℕ} → c < a → a ≤ most_actions → 2 ^ most_actions ≤ m → 1 * 2 ^ c % m ≡ 2 ^ c
-bit_shifted c {a} {m} h l w =
-    let i : c < most_actions = omega arith in
-    let o : 2 ^ c < 2 ^ most_actions = pow-lt i in
-    let e : 1 * 2 ^ c ≡ 2 ^ c = omega arith in
-    rw e (mod-eq_of_lt (omega arith))
+pub bit_in : (m c : ℕ) {b : Bool} → m / 2 ^ c % 2 ≡ 1 → b ≡ both (bit m c) b
+unfolding bit
+bit_in m c e = sym (both_second _ _ (eq-eqb _ _ e))
 
--- the mask of the actions below c that pass a test; with the next one's bit, b, and without it
+pub bit_out : (m c : ℕ) (b : Bool) → (m / 2 ^ c % 2 ≡ 1 → ⊥) → eqb (m / 2 ^ c % 2) 1 ≡ both (bit m c) b
+unfolding bit
+bit_out m c b n = let e = ne_eqb (m / 2 ^ c % 2) 1 n in e ∙ sym (both_none _ _ e)
 
-module _ (p : ℕ → Bool) (c : ℕ) {m : ℕ} (e : m ≡ mask_below p c) where
-  pub mask_set : {s b : ℕ} → s ≡ m + b → b ≡ 2 ^ c → p c ≡ true → s ≡ mask_below p (c + 1)
-  mask_set {s} {b} i q t = i ∙ sym (mask_next p c ∙ rw (t, ← e, ← q))
+-- the mask of the actions below c that pass a test, and the next one's bit, as code shifts it
 
-  pub mask_kept : {s : ℕ} → s ≡ m → p c ≡ false → s ≡ mask_below p (c + 1)
-  mask_kept {s} i t = let o : m + 0 ≡ m = omega arith in i ∙ sym (mask_next p c ∙ rw (t, ← e, o))
+module _ (p : ℕ → Bool) (c : ℕ) {a v x : ℕ} {b : Bool} (h : c < a) (l : a ≤ most_actions) (e : v ≡ mask_below p c) (q : x ≡ from_bool b)
+    (t : b ≡ p c) where
+  shifted : x * 2 ^ c % 2 ^ 64 ≡ cond (p c) (2 ^ c) 0
+  shifted =
+      let i : c < 64 = omega arith in
+      let o : 2 ^ c < 2 ^ 64 = pow-lt i in
+      rw (q, ← t) (by b (omega arith))
+    where
+      by : (b : Bool) → 2 ^ c < 2 ^ 64 → from_bool b * 2 ^ c % 2 ^ 64 ≡ cond b (2 ^ c) 0
+      by true o = let e : 1 * 2 ^ c ≡ 2 ^ c = omega arith in rw e (mod-eq_of_lt o)
+      by false o = let e : 0 * 2 ^ c ≡ 0 = omega arith in rw e refl
 
-  -- the next bit fits too, into a byte and more
-  pub mask_fits : {w : Width} {a b : ℕ} → most_actions ≤ bits w → b ≡ 2 ^ c → c < a → a ≤ most_actions → Fits w (m + b)
-  mask_fits {w} {a} {b} v q h l =
-      let n = mask_lt p c in
-      let j : c + 1 ≤ bits w = omega arith in
-      let o : 2 ^ (c + 1) ≤ 2 ^ bits w = pow_mono j in
-      let r : 2 ^ (c + 1) ≡ 2 ^ c * 2 = rw (add-one c, pow-suc 2 c) in
+  pub mask_more : v + x * 2 ^ c % 2 ^ 64 ≡ mask_below p (c + 1)
+  mask_more = rw (shifted, e) (sym (mask_next p c))
+
+  -- the next bit fits too
+  pub mask_fits : Fits w64 (v + x * 2 ^ c % 2 ^ 64)
+  mask_fits =
+      let n = mask_lt p (c + 1) in
+      let j : c + 1 ≤ most_actions = omega arith in
+      let o : 2 ^ (c + 1) ≤ 2 ^ most_actions = pow_mono j in
+      let m = mask_more in
       record { fits = omega arith }
 
-module _ (p : List ℕ) (g : List (List ℕ)) (u f : List ℕ) (l : Level) (n : ℕ) (ranks : List ℕ) (k : ℕ) where
+mask_same : (p q : ℕ → Bool) (n : ℕ) → ((c : ℕ) → c < n → p c ≡ q c) → mask_below p n ≡ mask_below q n
+unfolding mask_below
+mask_same p q zero f = refl
+mask_same p q (suc n) f = rw (mask_same p q n (λ c h. f c (omega arith)), f n (omega arith))
+
+-- the mask of a node
+
+module _ (p : List ℕ) (g : List (List ℕ)) (u f : List ℕ) (l : Level) (n : ℕ) (ranks : List ℕ) (k : ℕ) (z : Sized (length p) l) (h : k < l.nodes) where
   abbrev here : Arena
   here = arena_of p g u f l
 
-  abbrev allowed_at : ℕ → Bool
-  allowed_at c = not (spoilt_by here (fallen_by n ranks) k c)
+  -- at a node that exists, what is left of a mask is what theory leaves
+  pub part_here : (m : ℕ)
+      → mask_below (λ c. both (bit m c) (not (spoilt_answer p g u f l ranks n k c))) l.actions
+      ≡ mask_below (λ c. both (bit m c) (not (spoilt_by here (fallen_by n ranks) k c))) l.actions
+  part_here m = mask_same _ _ l.actions (λ c a. ap (λ b. both (bit m c) (not b)) (at_action (length p) l k c z h a refl))
 
-  -- what the walk answers at action c of a node that exists
-  pub allowed_is : (c : ℕ) {r : Bool} → Sized (length p) l → k < l.nodes → c < l.actions → r ≡ spoilt_answer p g u f l ranks n k c
-      → not r ≡ allowed_at c
-  allowed_is c z h a e = ap not (at_action (length p) l k c z h a e)
+  module _ {m r : ℕ} (e : m ≡ 2 ^ l.actions - 1) (q : r ≡ mask_below (λ c. both (bit m c) (not (spoilt_answer p g u f l ranks n k c))) l.actions) where
+    whole : r ≡ mask_below (λ c. not (spoilt_by here (fallen_by n ranks) k c)) l.actions
+    whole = q ∙ part_here m ∙ mask_same _ _ l.actions (λ c a. both_second _ _ (rw e (full_bit l.actions c a)))
 
-  pub allowed_done : (c : ℕ) {m : ℕ} → c ≤ l.actions → l.actions ≤ c → m ≡ mask_below allowed_at c → m ≡ allowed_in here n ranks k
-  unfolding allowed_in arena_of view_of
-  allowed_done c {m} h j e = mask_done _ h j e
+    pub whole_fits : Fits w8 r
+    whole_fits =
+        let w = mask_lt (λ c. not (spoilt_by here (fallen_by n ranks) k c)) l.actions in
+        let o : 2 ^ l.actions ≤ 2 ^ most_actions = pow_mono z.few_actions in
+        let d = whole in
+        record { fits = omega arith }
+
+    pub whole_mask : {b : Bool} → b ≡ kept_by (on_side p l) ranks k → b ≡ true → r ≡ mask_in here n ranks k
+    unfolding mask_in allowed_in arena_of view_of
+    whole_mask e t = whole ∙ rw (sym (kept_is p g u f l ranks k) ∙ sym e ∙ t) refl
 
 -- the loop over the nodes
 
@@ -73,14 +102,14 @@ module _ (p : List ℕ) (g : List (List ℕ)) (u f : List ℕ) (l : Level) (n : 
   abbrev entry : ℕ → ℕ
   entry = mask_in (arena_of p g u f l) n ranks
 
-  pub masks_done : (k : ℕ) {m : List ℕ} → Sized (length p) l → m ≡ filled entry k before → length before ≡ l.nodes → k ≤ l.nodes → l.nodes ≤ k
-      → m ≡ masks_in (arena_of p g u f l) n ranks
+  pub masks_all : (k : ℕ) → k ≤ length before → length before ≤ k → Sized (length p) l → length before ≡ l.nodes
+      → filled entry k before ≡ masks_in (arena_of p g u f l) n ranks
   unfolding masks_in arena_of view_of
-  masks_done k s e z h j = filled_done entry before k l.nodes e z h j ∙ ap (tabulate entry 0) s.all_nodes
+  masks_all k h j s e = filled_done entry before k (length p * l.words) refl (e ∙ s.all_nodes) (omega (arith, s.all_nodes)) (omega (arith, s.all_nodes))
 
   -- for those who know that level and buffer fit
   pub masks_known : {m : List ℕ} → Sized (length p) l → length before ≡ l.nodes → m ≡ masks_after p g u f l n ranks before
       → m ≡ masks_in (arena_of p g u f l) n ranks
   masks_known s e q = rw (fitted (length p) l (length before) s e) at q
 
-pub ruleset all_masks = (rules, filled_none, filled_more, masks_done)
+pub ruleset all_masks = (rules, filled_none, filled_more, masks_all)

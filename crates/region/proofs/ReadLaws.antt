@@ -10,7 +10,7 @@ use Rattle.reader.specs.Reading.{read_answer}
 use Rattle.sheet.specs.Refusals.{answer_of}
 use Rattle.sheet.specs.declared.refusal.Refusal.{Refusal}
 use Rattle.sheet.specs.SheetGame.{game_of}
-use Rattle.sheet.specs.code.Arrays.{bodies_game}
+use Rattle.sheet.specs.code.Arrays.{firsts_of, view_of, bodies_game}
 use Rattle.reader.specs.code.Laid.{grid_at}
 use Rattle.reader.specs.declared.reading.Layout.{Layout}
 use Rattle.std.proofs.Common.{Result, Ok}
@@ -45,6 +45,11 @@ module _ (s : List ℕ) (rd : Result Layout Refusal) (e : answer_of rd ≡ read_
   pub game_read : (g : List (List ℕ)) (u : List ℕ) → g ≡ grid_at s l → u ≡ part_at s l.moves
       → bodies_game p g u l.start l.actions ≡ game_of s
   game_read g u eg eu = rw (ep, eg, eu) (laid_game s l answered)
+
+  pub view_read : (g : List (List ℕ)) (u f : List ℕ) → g ≡ grid_at s l → u ≡ part_at s l.moves → f ≡ firsts_of u
+      → view_of p g u f l.start l.actions ≡ game_of s
+  unfolding bodies_game
+  view_read g u f eg eu ef = rw ef (game_read g u eg eu)
 
   module _ (v : Level) (made : v ≡ level_to (length p) l.start l.actions l.delay) where
     pub is_level : v ≡ level_at (length p) l.start l.actions l.delay

@@ -1,26 +1,28 @@
 // The masks: what each node allows once the ranks stand.
 ghost use Rattle.std.specs.Prelude.{◌≡◌, ◌<◌, length};
 ghost use Rattle.walk.specs.code.Arenas.{arena_in};
-ghost use Rattle.region.specs.code.Kept.{allowed_in, mask_in, masks_in, masks_left};
+ghost use Rattle.region.specs.code.Kept.{unspoilt_part, mask_in, masks_in, masks_left};
 
 use crate::words::Kept;
 use walk::arena::{Arena, Fallen};
 use walk::sized::SizedArena;
 
-// The bits of the actions that are not spoilt at node k, which is kept.
-fn allowed(sized: &SizedArena, fallen: &Fallen, k: usize) -> u8
-    requires { k < sized.now.arena.now.level.nodes }
-    ensures { result ≡ allowed_in (arena_in sized.now.arena.now) fallen.now.last fallen.now.marks.now k }
+// The part of a mask whose actions are not spoilt at node k; nothing is spoilt where there is no such node.
+#[tactic(auto, using(theory::proofs::Masks::mask_first, theory::proofs::Masks::mask_done))]
+pub fn unspoilt_part(sized: &SizedArena, fallen: &Fallen, k: usize, mask: usize) -> usize
+    ensures { result ≡ unspoilt_part sized.now.arena.now fallen.now k mask }
 {
-    let mut mask: u8 = 0;
+    // not `fold`: that each sum fits is the loop's invariant. Not by `|` either: of each bit it would have to be shown that it is clear
+    let mut part: usize = 0;
     for c in 0..sized.arena.level.actions {
-        if !sized.arena.spoilt(fallen, k, c) {
-            mask += 1 << c;
-        }
+        let left = mask >> c;
+        let stays = left % 2 == 1 && !sized.arena.spoilt(fallen, k, c);
+        part += usize::from(stays) << c;
     }
-    mask
+    part
 }
 
+// The mask of node k, which exists: what stays of the whole one, so that the cast loses nothing; 0 where the node is not kept.
 #[tactic(auto, unfolding(crate::specs::code::Kept::mask_in, crate::specs::code::Kept::on_side, walk::specs::code::Levels::arena_of, sheet::specs::code::Arrays::view_of))]
 fn mask_of(sized: &SizedArena, fallen: &Fallen, k: usize) -> u8
     requires { k < sized.now.arena.now.level.nodes }
@@ -33,10 +35,11 @@ fn mask_of(sized: &SizedArena, fallen: &Fallen, k: usize) -> u8
         level: arena.level,
         ranks: fallen.marks,
     };
-    if !kept.has(k) {
-        return 0;
+    if kept.has(k) {
+        unspoilt_part(sized, fallen, k, usize::from(sized.full_mask())) as u8
+    } else {
+        0
     }
-    allowed(sized, fallen, k)
 }
 
 #[tactic(auto, using(crate::proofs::MaskLaws::all_masks))]
@@ -49,15 +52,12 @@ fn all_masks(sized: &SizedArena, fallen: &Fallen, masks: &mut [u8])
     }
 }
 
-// The same for any level and buffer: nothing is done where the level is too large or the buffer has not one entry for each node.
-#[tactic(auto, unfolding(walk::specs::code::Nodes::is_fitted, theory::specs::Fold::both))]
+// The masks for any level and buffer: nothing is done where the level is too large or the buffer has not one entry for each node.
+#[tactic(auto, using(walk::proofs::NodeLaws::fitted_level))]
 pub fn fill_masks(arena: &Arena, fallen: &Fallen, masks: &mut [u8])
     ensures { masks.new ≡ masks_left arena.now fallen.now masks.old }
 {
-    if !arena.level.is_sized(arena.positions.len()) {
-        return;
-    }
-    if masks.len() != arena.level.nodes {
+    if !arena.is_fitted(masks.len()) {
         return;
     }
     all_masks(&SizedArena { arena }, fallen, masks);

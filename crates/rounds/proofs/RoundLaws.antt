@@ -11,7 +11,7 @@ use lib.Dec.{eqb, ltb, leb}
 use lib.ListN.{length, get_or, set}
 use lib.Seq.{ext_get_or}
 use borrow.Author.Rules.{rules}
-use borrow.Author.Tests.{lt-ltb, le-ltb, le-leb, lt-leb, not-true, not-false}
+use borrow.Author.Tests.{lt-ltb, le-ltb, le-leb, lt-leb, not-true}
 use Rattle.theory.specs.Fold.{both, all_below, any_below, tabulate, count}
 use Rattle.theory.specs.Rounds.{Arena, spoilt_by, fell, node_falls, rank_in, ranks_after, final_ranks}
 use Rattle.theory.specs.Delay.{on_right}
@@ -24,10 +24,11 @@ use Rattle.walk.specs.declared.level.Level.{Level}
 use Rattle.walk.specs.code.Levels.{arena_of}
 use Rattle.sheet.specs.code.Arrays.{view_of}
 use Rattle.walk.specs.code.Walks.{fallen_by}
+use Rattle.walk.proofs.NodeLaws.{filled_all}
 use Rattle.rounds.specs.code.Falling.{first_rank, falls_to, falls_next, next_ranks, AtMost, last_round}
 use Rattle.theory.proofs.Filling.{filled, filled_none, filled_more, filled_keep, filled_done, filled_below, filled_above}
 
-pub ruleset filling = (rules, filled_none, filled_more, filled_done)
+pub ruleset filling = (rules, filled_none, filled_more, filled_all)
 
 -- the arena of the arrays
 
@@ -170,7 +171,7 @@ any_over t {k} {n} e a b = let q : k ≡ n = omega arith in e ∙ ap (any_below 
 pub none_fell : (t : ℕ → Bool) → false ≡ any_below t 0
 none_fell t = sym (any_none t)
 
-pub ruleset rounding = (rules, filled_none, none_fell, round_done, any_over)
+pub ruleset rounding = (rules, filled_none, none_fell)
 
 -- all rounds
 
@@ -306,35 +307,35 @@ module _ (p : List ℕ) (g : List (List ℕ)) (u f : List ℕ) (l : Level) (s : 
   falls_here : any_below (falls_next (arena_of p g u f l) n ranks) (arena_of p g u f l).nodes ≡ r
   falls_here = ap (any_below (falls_next (arena_of p g u f l) n ranks)) (sym all_nodes) ∙ sym a
 
-  pub rounds_final : 1 ≤ n → not r ≡ true → now ≡ final_ranks (arena_of p g u f l)
-  rounds_final h t = ranked_final (arena_of p g u f l) n e h d (falls_here ∙ not-true r t)
+  pub rounds_final : 1 ≤ n → r ≡ false → now ≡ final_ranks (arena_of p g u f l)
+  rounds_final h t = ranked_final (arena_of p g u f l) n e h d (falls_here ∙ t)
 
   -- the number of a round in which a node falls is reached, and the last one's is the largest
-  pub rounds_reach : not r ≡ false → n + 1 ≤ last_round now
+  pub rounds_reach : r ≡ true → n + 1 ≤ last_round now
   rounds_reach t =
       let E = arena_of p g u f l in
-      let s = any_some (falls_next E n ranks) E.nodes (falls_here ∙ not-false r t) in
+      let s = any_some (falls_next E n ranks) E.nodes (falls_here ∙ t) in
       let q : get_or now s.0 0 ≡ rank_in E n ranks s.0 = ap (λ (l : List ℕ). get_or l s.0 0) d ∙ next_at E n ranks s.0 s.1 in
       let z = rank_fell E n ranks s.0 s.2 in
       let m = last_most now s.0 in
       omega arith
 
-  pub rounds_last : 1 ≤ n → not r ≡ true → n ≤ last_round ranks → n ≡ last_round now
+  pub rounds_last : 1 ≤ n → r ≡ false → n ≤ last_round ranks → n ≡ last_round now
   rounds_last h t m =
       let E = arena_of p g u f l in
-      let a = falls_here ∙ not-true r t in
+      let a = falls_here ∙ t in
       let b = last_le now n h (final_most E n e h d a) in
       let c : last_round now ≡ last_round ranks = ap last_round (d ∙ same_ranks E n e a) in
       omega arith
 
-  pub rounds_fewer : not r ≡ false → standing now l.nodes < standing ranks l.nodes
+  pub rounds_fewer : r ≡ true → standing now l.nodes < standing ranks l.nodes
   rounds_fewer t =
-      let h = ranked_fewer (arena_of p g u f l) n e d (falls_here ∙ not-false r t) in
+      let h = ranked_fewer (arena_of p g u f l) n e d (falls_here ∙ t) in
       let x = ap (standing now) all_nodes in
       let y = ap (standing ranks) all_nodes in
       omega arith
 
-  pub rounds_count : not r ≡ false → n + standing ranks l.nodes ≤ l.nodes + 1 → n + 1 + standing now l.nodes ≤ l.nodes + 1
+  pub rounds_count : r ≡ true → n + standing ranks l.nodes ≤ l.nodes + 1 → n + 1 + standing now l.nodes ≤ l.nodes + 1
   rounds_count t h = let m = rounds_fewer t in omega arith
 
 -- after round 1
@@ -345,4 +346,4 @@ standing_le ranks n = count_le (λ k. not (fell ranks k)) n
 pub first_count : (ranks : List ℕ) (n : ℕ) → 1 + standing ranks n ≤ n + 1
 first_count ranks n = let h = standing_le ranks n in omega arith
 
-pub ruleset all_rounds = (rules, first_ranked, first_count, ranked_most, ranked_next, last_some, rounds_final, rounds_reach, rounds_last, rounds_fewer, rounds_count)
+pub ruleset all_rounds = (rules, first_ranked, first_count, ranked_most, last_some)

@@ -1,26 +1,30 @@
 -- The part of a mask that may stand, as the code of src/part.rt makes it. Assumes nothing.
-use Prim.Native.Nat.{ℕ, ◌+◌, ◌/◌, ◌%◌, ◌^◌, ◌≤◌, ◌<◌}
+use Prim.Native.Nat.{ℕ, ◌/◌, ◌≤◌, ◌<◌}
 use mathlib.Core.Path.{◌≡◌, refl, sym, ◌∙◌, ap}
 use mathlib.Core.Bool.{Bool, true, false, not, cond}
 use mathlib.Core.List.{List}
 use native.Mathlib.Omega.{arith}
 use lib.Dec.{leb, ltb}
-use lib.ListN.{length, get_or, set, drop, length-append, length-drop}
+use lib.ListN.{length, get_or, drop, length-append, length-drop}
 use borrow.Author.Rules.{rules}
-use borrow.Author.Tests.{eq-eqb, ne_eqb, le-leb, lt-leb}
+use borrow.Author.Tests.{le-leb, lt-leb}
 use Rattle.theory.specs.Fold.{both, tabulate}
 use Rattle.theory.specs.Buffer.{over}
-use Rattle.theory.specs.Rounds.{Arena}
+use Rattle.theory.specs.Rounds.{mask_below}
 use Rattle.theory.specs.Table.{bit}
-use Rattle.theory.proofs.Fold.{both_none, both_second, length_tabulate, get_d_tabulate}
+use Rattle.theory.proofs.Fold.{both_true, length_tabulate, get_d_tabulate}
 use Rattle.theory.proofs.Buffer.{over_front, over_beyond}
 use Rattle.theory.proofs.Filling.{filled, filled_none, filled_more, filled_over}
+use Rattle.theory.specs.Delay.{on_right}
+use Rattle.sheet.specs.Kinds.{controller_at, safe_at}
+use Rattle.sheet.specs.code.Arrays.{view_of}
 use Rattle.walk.specs.declared.level.Level.{Level}
 use Rattle.walk.specs.code.Levels.{arena_of}
-use Rattle.walk.specs.code.Nodes.{Sized}
-use Rattle.walk.specs.code.Walks.{fallen_by, spoilt_answer}
-use Rattle.walk.proofs.NodeLaws.{at_action}
-use Rattle.rule.specs.code.Parts.{mark_for, mark_at, marks_after, Marked, stays}
+use Rattle.walk.specs.code.Nodes.{is_node}
+use Rattle.walk.specs.code.Walks.{spoilt_answer}
+use Rattle.walk.proofs.NodeLaws.{node_level, node_lt}
+use Rattle.region.proofs.MaskLaws.{part_here}
+use Rattle.rule.specs.code.Parts.{mark_for, mark_at, marks_after, Marked, stays, part_of, part_in}
 
 -- marks
 
@@ -35,26 +39,15 @@ module _ (masks marks : List ℕ) where
   unfolding mark_at
   mark_at_lem k q e = q ∙ ap mark_for e
 
-  pub marks_start : marks ≡ filled (mark_at masks) 0 marks
-  marks_start = filled_none (mark_at masks) marks
-
-  pub marks_more : (k : ℕ) {n v : ℕ} {l : List ℕ} → l ≡ filled (mark_at masks) k marks → n ≡ length masks → k < n → length masks ≤ length marks
-      → v ≡ mark_at masks k → set l k v ≡ filled (mark_at masks) (k + 1) marks
-  marks_more k e c h r q = filled_more (mark_at masks) marks k e (omega arith) q
-
-  pub marks_done : (k : ℕ) {n : ℕ} {l : List ℕ} → l ≡ filled (mark_at masks) k marks → n ≡ length masks → k ≤ length masks → n ≤ k
-      → length masks ≤ length marks → l ≡ marks_after masks marks
+  pub marks_done : (k : ℕ) → k ≤ length masks → length masks ≤ k → length masks ≤ length marks → filled (mark_at masks) k marks ≡ marks_after masks marks
   unfolding marks_after
-  marks_done k e c a b r =
+  marks_done k a b r =
       let q : k ≡ length masks = omega arith in
-      e ∙ rw (q, le-leb (length masks) (length marks) r) (filled_over (mark_at masks) marks (length masks))
+      rw (q, le-leb (length masks) (length marks) r) (filled_over (mark_at masks) marks (length masks))
 
-  pub marks_room : {n : ℕ} → n ≡ length masks → n ≤ length marks → length masks ≤ length marks
-  marks_room c h = omega arith
-
-  pub marks_out : {n : ℕ} → n ≡ length masks → length marks < n → marks ≡ marks_after masks marks
+  pub marks_out : length marks < length masks → marks ≡ marks_after masks marks
   unfolding marks_after
-  marks_out c h = rw (lt-leb (length masks) (length marks) (omega arith))
+  marks_out h = rw (lt-leb (length masks) (length marks) h)
 
   -- where there is room, each node has its mark, and what is beyond stays
   module _ (room : length masks ≤ length marks) where
@@ -84,21 +77,16 @@ module _ (masks marks : List ℕ) where
         rw marks_are
         (over_beyond (tabulate (mark_at masks) 0 (length masks)) marks k (rw (length_tabulate (mark_at masks) 0 (length masks)) h))
 
-pub ruleset marking = (rules, mark_at_lem, marks_start, marks_more, marks_done, marks_room, marks_out)
+pub ruleset marking = (rules, filled_none, filled_more, mark_at_lem, marks_done, marks_out)
 
 -- the node
 
 module _ (p : List ℕ) (g : List (List ℕ)) (u f : List ℕ) (l : Level) (marks : List ℕ) (k : ℕ) where
-  abbrev here : Arena
-  here = arena_of p g u f l
-
-  -- whether a bit stays, by the walk's answer
-  pub bit_out : (mask c : ℕ) → (mask / 2 ^ c % 2 ≡ 1 → ⊥) → stays here (fallen_by 1 marks) k mask c ≡ false
-  unfolding stays bit
-  bit_out mask c n = both_none _ _ (ne_eqb (mask / 2 ^ c % 2) 1 n)
-
-  pub bit_stays : (mask c : ℕ) {r : Bool} → Sized (length p) l → k < l.nodes → c < l.actions → mask / 2 ^ c % 2 ≡ 1
-      → r ≡ spoilt_answer p g u f l marks 1 k c → stays here (fallen_by 1 marks) k mask c ≡ not r
-  unfolding stays bit
-  bit_stays mask c z h a o e =
-      both_second _ _ (eq-eqb (mask / 2 ^ c % 2) 1 o) ∙ ap not (sym (at_action (length p) l k c z h a e))
+  -- at a node that exists, of the right side and safe, the part is what region leaves of the mask
+  pub part_stands : (m : ℕ) {r : ℕ} {x y z : Bool} → x ≡ is_node (length p) l k → x ≡ true → y ≡ on_right l.odd (controller_at p) (k / l.words) → y ≡ true
+      → z ≡ safe_at p (k / l.words) → z ≡ true → r ≡ mask_below (λ c. both (bit m c) (not (spoilt_answer p g u f l marks 1 k c))) l.actions
+      → r ≡ part_in p g u f l marks k m
+  unfolding part_in part_of stays arena_of view_of
+  part_stands m ex tx ey ty ez tz e =
+      rw (sym ex ∙ tx, both_true _ _ (sym ey ∙ ty) (sym ez ∙ tz))
+      (e ∙ part_here p g u f l 1 marks k (node_level (length p) l k ex tx) (node_lt (length p) l k ex tx) m)

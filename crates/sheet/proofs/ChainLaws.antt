@@ -1,8 +1,8 @@
 -- What a chain of iterators asks of each element or index, in the project's own words (theory/specs/Fold.antt): p is the test by index.
 -- Assumes nothing.
-use Prim.Native.Nat.{ℕ, zero, suc, ◌+◌, ◌<◌}
+use Prim.Native.Nat.{ℕ, zero, suc, ◌+◌, ◌≤◌, ◌<◌}
 use mathlib.Core.Path.{◌≡◌, refl, sym, ◌∙◌, ap, subst}
-use mathlib.Core.Bool.{Bool, true, false}
+use mathlib.Core.Bool.{Bool, true, false, not, cond}
 use mathlib.Core.List.{List, [], ◌∷◌}
 use mathlib.Core.Logic.{⊎_elim}
 use native.Mathlib.Omega.{arith}
@@ -11,20 +11,21 @@ use denote.Ref.{Bor}
 use lib.ListN.{length, get_or}
 use lib.Seq.{ext_get_or}
 use Rattle.std.specs.Array.{IsFromFnResult, IsFromFnResultFrom}
-use Rattle.std.proofs.Common.{Option, Iter}
+use Rattle.std.proofs.Common.{Option, Some, None, Iter}
 use Rattle.std.specs.declared.ops.Range.{Range}
 use Rattle.std.specs.Slice.Iter.{iter_rest}
-use Rattle.std.specs.Fn.{Called}
+use Rattle.std.specs.Fn.{Called, CalledAt}
 use Rattle.std.specs.Iterator.{YieldsThen}
 use Rattle.std.specs.List.{FoldsTo, list_all, list_any, range_with_len}
 use Rattle.std.specs.Option.{MatchOption}
 use Rattle.std.proofs.iter.Yields.{fronts, nat_range_steps}
-use Rattle.std.proofs.lemmas.Iterator.{YieldsList-from_range, YieldsList-from_slice}
+use Rattle.std.proofs.lemmas.Iterator.{YieldsList-from_range, YieldsList-from_slice, first_from_Range}
 use Rattle.std.proofs.lemmas.Iterator.Search.{all_from_yields_List, any_from_yields_List}
 use Rattle.std.proofs.lemmas.List.Folds.{list_all_at, list_any_at}
 use Rattle.std.proofs.lemmas.List.FromFn.{length-range_with_len, get_or-range_with_len}
-use Rattle.theory.specs.Fold.{all_below, any_below, tabulate}
-use Rattle.theory.proofs.Fold.{bool, not_both, same_test, all_at, all_below_lem, any_some, any_below_none, length_tabulate, get_d_tabulate}
+use borrow.Author.Tests.{not-true, not-false}
+use Rattle.theory.specs.Fold.{all_below, any_below, first_not, tabulate}
+use Rattle.theory.proofs.Fold.{bool, below?, not_both, same_test, all_none, all_at, all_below_lem, any_some, any_below_none, first_stops, first_stopped, length_tabulate, get_d_tabulate}
 
 module _ {A : Type 0} (test : A → Bool) (d : A) where
   all_pass : (xs : List A) → ((k : ℕ) → k < length xs → test (get_or xs k d) ≡ true) → list_all test xs ≡ true
@@ -65,13 +66,13 @@ module _ (p : ℕ → Bool) (n : ℕ) where
   same_index : (k : ℕ) → k < length (range_with_len 0 n) → p (get_or (range_with_len 0 n) k 0) ≡ p k
   same_index k l = ap p (in_range n k (rw (length-range_with_len 0 n) at l))
 
-  pub all_range : list_all p (range_with_len 0 n) ≡ all_below p n
+  all_range : list_all p (range_with_len 0 n) ≡ all_below p n
   all_range = all_elements p 0 p (range_with_len 0 n) same_index ∙ ap (all_below p) (length-range_with_len 0 n)
 
-  pub any_range : list_any p (range_with_len 0 n) ≡ any_below p n
+  any_range : list_any p (range_with_len 0 n) ≡ any_below p n
   any_range = any_elements p 0 p (range_with_len 0 n) same_index ∙ ap (any_below p) (length-range_with_len 0 n)
 
--- what `all` and `any` answer: by their clause `ran`, where the chain begins, and what each call of the closure answers
+-- what `all`, `any` and `find` answer: by their clause `ran`, where the chain begins, and what each call of the closure answers
 
 abbrev pub AllRan : {S A F : Type 0} → (S → Option A → S → Type 0) → Mut F (A × Unit {0}) Bool → S → S → F → Bool → Type 0
 AllRan {S} {A} {F} steps g s u f r =
@@ -94,6 +95,39 @@ module _ {F : Type 0} {g : Mut F (ℕ × Unit {0}) Bool} {s u : Range ℕ} {f : 
       → r ≡ any_below p n
   any_indices ran said =
       any_from_yields_List p u f r ran (YieldsList-from_range 0 n n begins (omega arith)) said ∙ any_range p n
+
+abbrev pub FindRan : {S A F : Type 0} → (S → Option A → S → Type 0) → Mut F (Bor A × Unit {0}) Bool → S → S → F → Option A → Type 0
+FindRan {S} {A} {F} steps g s u f r =
+    (xs : List A) × (j : F) × YieldsThen steps s xs r u × FoldsTo (λ p x q. CalledAt g p x false q) f xs j
+    × MatchOption r (Unit {0}) (λ x. (h : F) × CalledAt g j x true h)
+
+-- the search for the first index below n of which p does not hold, from index i on, as it holds of those before
+
+module _ (p : ℕ → Bool) (i n : ℕ) (e : all_below p i ≡ true) where
+  upto : (m : ℕ) → ((k : ℕ) → i ≤ k → k < m → p k ≡ true) → all_below p m ≡ true
+  upto m h = all_below_lem p m (λ k l. ⊎_elim (λ (b : k < i). all_at p i e k b) (λ (b : i ≤ k). h k b l) (below? k i))
+
+  found_first : (o : Option ℕ)
+      → MatchOption o ((k : ℕ) → i ≤ k → k < n → p k ≡ true)
+      (λ x. (i ≤ x) × (x < n) × (p x ≡ false) × ((k : ℕ) → i ≤ k → k < x → p k ≡ true))
+      → o ≡ cond (all_below p n) None (Some (first_not p n))
+  found_first None h = rw (upto n h) refl
+  found_first (Some x) h =
+      let y = first_stopped p (first_stops p x h.1 (upto x h.3) h.2) h.1 in
+      rw y.0 (ap Some y.1)
+
+module _ {F : Type 0} {g : Mut F (Bor ℕ × Unit {0}) Bool} {s : Range ℕ} (u : Range ℕ) {f : F} {r : Option ℕ} (p : ℕ → Bool) where
+  pub find_from : (i n : ℕ) → s ≡ record { start = i; end = n } → all_below p i ≡ true → FindRan nat_range_steps g s u f r
+      → ((x : ℕ) (b : Bool) (q : F) → CalledAt g f x b q → (q ≡ f) × (b ≡ not (p x))) → r ≡ cond (all_below p n) None (Some (first_not p n))
+  find_from i n begins e ran said =
+      found_first p i n e r
+      (rw begins at
+      (first_from_Range s u f r (λ x. p x ≡ false) (λ x. p x ≡ true) ran (λ x q k. not-true _ (sym (said x true q k).1))
+      (λ x q k. let t = said x false q k in (t.0, not-false _ (sym t.1)))))
+
+  pub find_index : (n : ℕ) → s ≡ record { start = 0; end = n } → FindRan nat_range_steps g s u f r
+      → ((x : ℕ) (b : Bool) (q : F) → CalledAt g f x b q → (q ≡ f) × (b ≡ not (p x))) → r ≡ cond (all_below p n) None (Some (first_not p n))
+  find_index n begins ran said = find_from 0 n begins (all_none p) ran said
 
 module _ {A F : Type 0} {g : Mut F (Bor A × Unit {0}) Bool} {s u : Iter A} {f : F} {r : Bool} (test : A → Bool) (p : ℕ → Bool) (d : A)
     (xs : List A) (begins : iter_rest s ≡ xs) (same : (k : ℕ) → k < length xs → test (get_or xs k d) ≡ p k) where

@@ -3,19 +3,19 @@
 use Prim.Native.Nat.{ℕ, suc, ◌+◌, ◌-◌, ◌*◌, ◌/◌, ◌≤◌, ◌<◌}
 use mathlib.Core.Path.{◌≡◌, refl, sym, ◌∙◌, ap}
 use mathlib.Core.Bool.{true, false}
-use mathlib.Core.List.{List, []}
+use mathlib.Core.List.{List}
 use native.Mathlib.Omega.{arith}
 use native.Mathlib.Numerals.{add-one}
 use lib.Dec.{eqb}
-use lib.ListN.{length, get_or, take, drop, length-drop, drop_of_length-le, get_or-eq_default}
-use lib.Seq.{get_or-drop, take_all, take-nil}
+use lib.ListN.{length, get_or, take, drop, get_or-eq_default}
+use lib.Seq.{get_or-drop}
 use borrow.Author.Rules.{rules}
 use borrow.Author.Tests.{le-leb, lt-leb, eq-eqb, ne_eqb}
 use Rattle.theory.specs.Fold.{all_below}
-use Rattle.theory.proofs.Fold.{both_true, both_false, all_none, all_fails, all_again, both_none, both_second, take_rest}
-use Rattle.sheet.specs.Form.{entry_size, letter_of, offset_of, length_of, place_of, entry_ok, contents_ok, placed_at, part_at, body_of}
+use Rattle.theory.proofs.Fold.{both_true, both_false, all_none, all_fails, all_again, both_none, both_second}
+use Rattle.std.proofs.lemmas.List.{take_rest}
+use Rattle.sheet.specs.Form.{entry_size, letter_of, offset_of, length_of, place_of, entry_ok, contents_ok, placed_at}
 use Rattle.theory.specs.Bytes.{number_at}
-use Rattle.sheet.specs.declared.form.Place.{Place}
 
 -- bytes and two-byte numbers
 

@@ -130,9 +130,9 @@ module _ (c : List ℕ) (l : List (List ℕ)) (whole : l ≡ first_chunks 3 (len
   grid_skip h action large =
       so_far ∙ grid_kept c k (get_or c (3 * k) 0) a 0 refl (action ∙ entry 1 (3 * k + 1) h (omega arith) refl) large
 
-pub grid_done : (c : List ℕ) (k n : ℕ) (g : List (List ℕ)) → n ≡ length c / 3 → k ≤ n → n ≤ k → g ≡ grid_after c k → g ≡ grid_of c
+pub grid_done : (c : List ℕ) (k n : ℕ) → n ≡ length c / 3 → k ≤ n → n ≤ k → grid_after c k ≡ grid_of c
 unfolding grid_of
-grid_done c k n g s l h e = let done : k ≡ length c / 3 = omega arith in rw done at e
+grid_done c k n s l h = ap (grid_after c) (omega arith)
 
 abbrev empty_row : List ℕ
 empty_row = replicate most_actions absent_mark
@@ -147,6 +147,8 @@ grid_start c =
     (λ q h.
     let m : q < most_positions = rw (length-replicate most_positions empty_row) at h in
     get_or-replicate most_positions q empty_row [] m ∙ row_empty c q ∙ sym (row_at c 0 q m))
+
+pub ruleset line_by_line = (grid_start, grid_line, grid_skip, grid_done)
 
 -- looking a target up
 

@@ -1,36 +1,31 @@
 -- The index of first lines (specs/code/Arrays.antt), as the code of src/moves.rt fills it. Assumes nothing.
-use Prim.Native.Nat.{ℕ, ◌+◌, ◌*◌, ◌≤◌, ◌<◌}
-use mathlib.Core.Path.{◌≡◌, refl, ◌∙◌}
-use mathlib.Core.Bool.{true, false}
+use Prim.Native.Nat.{ℕ, ◌+◌, ◌≤◌}
+use mathlib.Core.Path.{◌≡◌, refl}
+use mathlib.Core.Bool.{Bool, true, false, cond}
 use mathlib.Core.List.{List}
 use mathlib.Core.Logic.{⊎_elim}
 use native.Mathlib.Omega.{arith}
-use lib.ListN.{length, get_or}
+use lib.ListN.{length}
 use borrow.Author.Rules.{rules}
-use borrow.Author.Tests.{ltb-true, lt-ltb, le-ltb}
-use Rattle.theory.specs.Fold.{all_below}
-use Rattle.theory.proofs.Fold.{bool, all_none, all_at, all_below_lem, all_again, first, first_suc, first_stops, first_ends}
+use Rattle.std.proofs.Common.{Option, Some, None}
+use Rattle.std.specs.Option.{unwrap_or}
+use borrow.Author.Tests.{ltb-true, lt-ltb}
+use Rattle.theory.specs.Fold.{all_below, first_not}
+use Rattle.theory.proofs.Fold.{bool, all_none, below?, all_at, all_below_lem, first, first_suc, first_stops, first_ends}
 use Rattle.theory.proofs.Filling.{filled, filled_none, filled_more, filled_done}
 use Rattle.sheet.specs.code.Arrays.{from_below, first_line, firsts_of, line_count, index_entries}
 
+-- the line that a search finds, or the number of lines
+pub line_found : (u : List ℕ) (q : ℕ) {o : Option ℕ} {n : ℕ} → n ≡ line_count u
+    → o ≡ cond (all_below (from_below u q) n) None (Some (first_not (from_below u q) n)) → unwrap_or o n ≡ first_line u q
+unfolding first_line
+line_found u q {n = n} s e = rw (← s, first_suc (from_below u q) n, e) (by (all_below (from_below u q) n))
+  where
+    by : (b : Bool) → unwrap_or (cond b None (Some (first_not (from_below u q) n))) n ≡ cond b n (first_not (from_below u q) n)
+    by true = refl
+    by false = refl
+
 module _ (u : List ℕ) (q : ℕ) where
-  -- a line passed, and the line looked for
-  pub skip_again : (i : ℕ) {r b : ℕ} → all_below (from_below u q) i ≡ true → r ≡ b → b ≡ get_or u (2 * i) 0 → r < q
-      → all_below (from_below u q) (i + 1) ≡ true
-  unfolding from_below
-  skip_again i e d f h = all_again (from_below u q) i e refl (lt-ltb _ q (omega arith))
-
-  pub skip_found : (i : ℕ) {n r b : ℕ} → n ≡ line_count u → all_below (from_below u q) i ≡ true → i < n → r ≡ b → b ≡ get_or u (2 * i) 0 → q ≤ r
-      → i ≡ first_line u q
-  unfolding first_line from_below
-  skip_found i s e h d f g = first_stops (from_below u q) i (omega arith) e (le-ltb _ q (omega arith))
-
-  pub skip_end : (i : ℕ) {n : ℕ} → n ≡ line_count u → all_below (from_below u q) i ≡ true → i ≤ n → n ≤ i → n ≡ first_line u q
-  unfolding first_line
-  skip_end i {n} s e h g =
-      let here : n ≡ i = omega arith in
-      here ∙ first_ends (from_below u q) (omega arith) (omega arith) e
-
   pub record Skipped (i : ℕ) : Type 0 where
     pub inside : i ≤ line_count u
     pub passed : all_below (from_below u q) i ≡ true
@@ -60,10 +55,8 @@ index_inside u q e = rw e (first_skips u q).inside
 pub index_passed : (u : List ℕ) (q : ℕ) {r : ℕ} → r ≡ first_line u q → all_below (from_below u (q + 1)) r ≡ true
 index_passed u q e = rw e (skip_more u q _ (first_skips u q).passed)
 
-pub index_done : (u l : List ℕ) (q : ℕ) {m : List ℕ} → m ≡ filled (first_line u) q l → length l ≡ index_entries → q ≤ index_entries → index_entries ≤ q → m ≡ firsts_of u
+pub index_done : (u l : List ℕ) (q : ℕ) → length l ≡ index_entries → q ≤ index_entries → index_entries ≤ q → filled (first_line u) q l ≡ firsts_of u
 unfolding firsts_of
-index_done u l q e n h g = filled_done (first_line u) l q index_entries e n h g
-
-pub ruleset skipping = (rules, skip_again, skip_found, skip_end)
+index_done u l q n h g = filled_done (first_line u) l q index_entries refl n h g
 
 pub ruleset indexing = (rules, all_none, filled_none, filled_more, index_inside, index_passed, index_done)

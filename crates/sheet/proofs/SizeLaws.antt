@@ -1,20 +1,20 @@
--- Powers that are cut off, as the code of src/size.rt finds them, and the sizes that they give. Assumes nothing.
+-- Powers that are cut off, as the code of src/size.rt finds them, and the sizes that they give; digits by division. Assumes nothing.
 use Prim.Native.Nat.{ℕ, suc, ◌+◌, ◌*◌, ◌/◌, ◌^◌, ◌≤◌, ◌<◌}
-use mathlib.Core.Path.{◌≡◌, sym, ◌∙◌, ap}
+use mathlib.Core.Path.{◌≡◌, refl, sym, ◌∙◌, ap}
 use mathlib.Core.Logic.{⊎_elim}
 use native.Mathlib.Omega.{arith}
-use native.Mathlib.Nat.{le_trans, pow-le-pow_left, pow-zero, pow-suc, pow-le-pow_right, le_of_lt, mul-le-mul, mul-zero}
+use native.Mathlib.Nat.{le_trans, pow-le-pow_left, pow-zero, pow-suc, pow-le-pow_right, mul-le-mul, mul-zero}
+use native.Mathlib.Nat.{div-one, div-zero, div-div-eq-div-mul, mod-zero}
 use native.Mathlib.Numerals.{add-one}
 use borrow.Author.Rules.{rules}
 use borrow.Author.Tests.{le-leb, lt-leb}
 use Rattle.theory.specs.Strategy.{initial_length}
+use Rattle.theory.specs.Words.{digit}
 use Rattle.theory.proofs.Fold.{below?}
+use Rattle.theory.proofs.Words.{digit_is}
 use Rattle.sheet.specs.Size.{nodes_of}
 use Rattle.sheet.specs.code.Steps.{power_to, most_power}
 use Rattle.sheet.specs.Limits.{most_positions, most_actions, most_delay, most_words}
-
-pub product_small : {r m w x : ℕ} → r ≤ m → w ≡ x → x < 256 → r * w ≤ m * 256
-product_small h e l = mul-le-mul h (omega arith)
 
 module _ (b : ℕ) where
   pub power_first : 1 ≡ b ^ 0
@@ -41,12 +41,11 @@ module _ (b : ℕ) where
       let more : b ^ suc i ≤ b ^ e = pow-le-pow_right (base_some r w f h) (omega arith) in
       power_cut e (omega arith)
 
-  pub power_is : (e i r : ℕ) → i ≤ e → e ≤ i → r ≡ b ^ i → r ≤ most_power → r ≡ power_to b e
+  pub power_is : (e i : ℕ) → i ≤ e → e ≤ i → b ^ i ≤ most_power → b ^ i ≡ power_to b e
   unfolding power_to
-  power_is e i r l g q h =
+  power_is e i l g h =
       let done : i ≡ e = omega arith in
-      let same : r ≡ b ^ e = rw done at q in
-      rw (le-leb (b ^ e) most_power (rw same at h)) same
+      rw (done, le-leb (b ^ e) most_power (rw done at h)) refl
 
 pub ruleset powers = (rules, power_first, power_again, power_over, power_is)
 
@@ -77,3 +76,19 @@ module _ (a d : ℕ) (few : a ≤ most_actions) (short : d ≤ most_delay) where
   words_small w e = e ∙ small_power a (initial_length d) few_first_words
 
 pub ruleset small_sizes = (rules, nodes_small, nodes_few, words_small)
+
+-- digits by division
+
+pub divided_none : (n base : ℕ) → n / base ^ 0 ≡ n
+divided_none n base = ap (λ j. n / j) (pow-zero base) ∙ div-one n
+
+pub divided_again : (n base k : ℕ) → n / base ^ (k + 1) ≡ n / base ^ k / base
+divided_again n base k = ap (λ j. n / base ^ j) (add-one k) ∙ ap (λ j. n / j) (pow-suc base k) ∙ sym (div-div-eq-div-mul n (base ^ k) base)
+
+pub ruleset divisions = (rules, divided_none, divided_again, div-zero)
+
+pub no_digit : (base n word i : ℕ) → n ≡ 0 → 0 ≡ digit base n word i
+unfolding digit
+no_digit base n word i e = rw e refl
+
+pub ruleset digits = (rules, no_digit, digit_is, mod-zero)

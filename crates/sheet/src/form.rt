@@ -1,25 +1,18 @@
 // The house form of sheets: contents with two-byte numbers, then the bodies back to back. Every function is total: a byte past
-// the end of a sheet reads as 0, and a part that would pass the end stops there.
-ghost use Rattle.std.specs.Prelude.{◌≡◌, ◌%◌, ◌<◌, get_or};
+// the end of a sheet reads as 0, and a part that would pass the end stops there. No `Option`: the checks come in document 01's order, and
+// some read a byte before they know the length.
+ghost use Rattle.std.specs.Prelude.{◌≡◌, ◌<◌, get_or};
 ghost use Rattle.sheet.specs.Limits.{width};
 ghost use Rattle.sheet.specs.Form.{contents_ok, placed_at, part_at, body_of};
 ghost use Rattle.theory.specs.Bytes.{number_at};
 
-// The bytes of an entry of the contents: its letter, and two each of offset and length.
-const ENTRY: usize = 5;
+use crate::limits::ENTRY;
 
 // Where a body lies in its sheet.
 #[derive(Clone, Copy, Debug, PartialEq, Eq)]
 pub struct Place {
     pub at: usize,
     pub size: usize,
-}
-
-// The low byte of a number.
-pub fn low_byte(n: usize) -> u8
-    ensures { result ≡ n % 256 }
-{
-    (n % 256) as u8
 }
 
 // The byte at an index.
@@ -41,12 +34,15 @@ pub fn two_bytes(s: &[u8], at: usize) -> usize
 }
 
 // Are the contents those of a sheet with these letters? A place is below 65,536 once it equals an offset, so no sum wraps.
+#[tactic(auto, using(crate::proofs::FormLaws::contents))]
 pub fn contents_ok(s: &[u8], letters: &[u8]) -> bool
     ensures { result ≡ contents_ok width letters.now s.now }
 {
     if s.len() / ENTRY < letters.len() {
         return false;
     }
+    // Not `all`, since each step needs the place that the step before it left, and `try_fold` with that place is no plainer. By index, as
+    // `two_bytes` reads the sheet.
     let mut at = ENTRY * letters.len();
     for (k, &letter) in letters.iter().enumerate() {
         if s[ENTRY * k] != letter || two_bytes(s, ENTRY * k + 1) != at {

@@ -8,6 +8,7 @@ use crate::limits::{ABSENT, ROW, ROWS};
 pub type Grid = [[u16; ROW]; ROWS];
 
 // A line with an action that no row has is left out, so the function is total.
+#[tactic(auto, using(crate::proofs::GridLaws::line_by_line))]
 pub fn grid_of(c: &[u8]) -> Grid
     ensures { result ≡ grid_of c.now }
 {
@@ -22,7 +23,8 @@ pub fn grid_of(c: &[u8]) -> Grid
     grid
 }
 
-// The target of action x at position q; there is none where the grid marks it as absent, nor outside the grid.
+// The target of action x at position q; there is none where the grid marks it as absent, nor outside the grid. The grid keeps a mark, as
+// document 01 has it. Callers get an `Option`; gates, which writes a grid, and prune, which passes over whole rows, read marks.
 #[tactic(auto, unfolding(crate::specs::code::Arrays::target_at, crate::specs::code::Arrays::unmark, theory::specs::Fold::both))]
 pub fn target(grid: &Grid, q: usize, x: usize) -> Option<u16>
     ensures { target_from result ≡ target_at grid.now q x }
@@ -31,8 +33,5 @@ pub fn target(grid: &Grid, q: usize, x: usize) -> Option<u16>
         return None;
     }
     let mark = grid[q][x];
-    if mark == ABSENT {
-        return None;
-    }
-    Some(mark)
+    (mark != ABSENT).then_some(mark)
 }

@@ -1,6 +1,6 @@
 // What the byte of a position in the P body says. Every function is total: a position that does not exist is of no kind.
 ghost use Rattle.std.specs.Prelude.{◌≡◌};
-ghost use Rattle.sheet.specs.Kinds.{kind_of, kind_at, known_at, controller_at, environment_at, safe_at};
+ghost use Rattle.sheet.specs.Kinds.{kind_of, kind_at, controller_at, environment_at, safe_at};
 ghost use Rattle.theory.specs.Delay.{on_right};
 
 // Whose position it is, and whether it is safe.
@@ -10,7 +10,8 @@ pub struct Kind {
     pub safe: bool,
 }
 
-// Side and safety by a P byte; there is none above 3.
+// Side and safety by a P byte, as document 01 matches on it; there is none above 3. An `Option` and no `TryFrom`, since nobody asks why a
+// byte is of no kind.
 #[tactic(auto, unfolding(crate::specs::Kinds::kind_of))]
 pub fn kind_of(b: u8) -> Option<Kind>
     ensures { result ≡ kind_of b }
@@ -70,11 +71,4 @@ pub fn on_right(p: &[u8], odd: bool, q: usize) -> bool
     ensures { result ≡ on_right odd (controller_at p.now) q }
 {
     controller_at(p, q) != odd
-}
-
-#[tactic(auto, unfolding(crate::specs::Kinds::known_at, crate::specs::Kinds::is_known))]
-pub fn known_at(p: &[u8], q: usize) -> bool
-    ensures { result ≡ known_at p.now q }
-{
-    kind_at(p, q).is_some()
 }

@@ -1,7 +1,11 @@
-// Document 01's numbers for game sheets, and the code's own, named once; specs/Limits.antt and specs/code/ have them too.
+// Document 01's numbers for game sheets, and the code's own, named once; specs/Limits.antt and specs/code/ have them too. `as`, since a
+// constant can't call `from`.
+
+// The bytes of an entry of the contents: its letter, and two each of offset and length.
+pub const ENTRY: usize = 5;
 
 // The bytes of the contents of a game sheet with G, and so its first offset.
-pub const GATED_CONTENTS: usize = 25;
+pub const GATED_CONTENTS: usize = 5 * ENTRY;
 
 pub const MOST_POSITIONS: usize = 256;
 

@@ -18,16 +18,14 @@ fn skip_below(u: &[u8], from: usize, q: usize) -> usize
     ensures { result ≡ first_line u.now q }
 {
     let n = line_count(u);
-    for line in from..n {
-        if q <= usize::from(u[2 * line]) {
-            return line;
-        }
-    }
-    n
+    (from..n)
+        .find(|&line| q <= usize::from(u[2 * line]))
+        .unwrap_or(n)
 }
 
-// For each position its first line, or where it would stand; one entry more, for the end of the last. Nothing is searched for: one pass
-// over the lines serves every position.
+// For each position its first line, or where it would stand; one entry more, for the end of the last. Not `partition_point` for each
+// position: one pass over the lines serves all. There are at most 4,096, so an entry is cast without a loss.
+#[tactic(auto, using(crate::proofs::MoveLaws::indexing))]
 pub fn first_lines(u: &[u8]) -> [u16; INDEX]
     ensures { result ≡ firsts_of u.now }
 {

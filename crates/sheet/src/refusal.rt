@@ -30,7 +30,7 @@ pub enum Refusal {
     Gates,
 }
 
-// The number of a refusal.
+// The number of a refusal, by document 01's match from refusals to numbers.
 impl From<Refusal> for u8 {
     ghost from_gives = { λ refusal n. n ≡ number_of refusal };
 

@@ -2,11 +2,14 @@
 use Prim.Native.Nat.{ℕ, zero, suc, ◌-◌, ◌/◌, ◌%◌, ◌^◌, ◌≤◌, ◌<◌}
 use mathlib.Core.Path.{◌≡◌, refl, sym, ◌∙◌, ap}
 use mathlib.Core.Bool.{true, false}
+use mathlib.Core.List.{List}
+use mathlib.Core.Logic.{⊎_elim}
 use native.Mathlib.Omega.{arith}
 use lib.Dec.{eqb}
+use lib.ListN.{length, get_or, set, get_or-eq_default}
 use borrow.Author.Tests.{ne_eqb}
 use Rattle.theory.specs.Table.{bit}
-use Rattle.theory.proofs.Fold.{not_both}
+use Rattle.theory.proofs.Fold.{not_both, below?, same?, stored}
 use Rattle.theory.proofs.Masks.{bit_zero, bit_suc, low_true, zero_bit}
 
 -- a bit that is set is part of the mask
@@ -47,6 +50,23 @@ bit_other m (suc c) (suc d) e h =
     ∙ bit_other (m / 2) c d (sym (bit_suc m c) ∙ e) (λ z. h (ap suc z))
     ∙ sym (bit_suc m d)
 
+-- so what was out stays out
+pub bit_still : (m c d : ℕ) → bit m c ≡ true → bit m d ≡ false → bit (m - 2 ^ c) d ≡ false
+bit_still m c d e f = grind (arith, same? d c, bit_other m c d e)
+
 pub some_mask : (m c : ℕ) → bit m c ≡ true → 0 < m
 some_mask zero c e = absurd (not_both e (zero_bit c))
 some_mask (suc m) c e = omega arith
+
+-- an entry that is not 0 is there
+pub there : (xs : List ℕ) (k : ℕ) → 0 < get_or xs k 0 → k < length xs
+there xs k m =
+    ⊎_elim
+    (λ (h : k < length xs). h)
+    (λ (h : length xs ≤ k). let z : get_or xs k 0 ≡ 0 = get_or-eq_default xs 0 h in absurd (omega arith))
+    (below? k (length xs))
+
+-- a store into a mask that lets bits out only
+pub store_out : (masks : List ℕ) (k m : ℕ) → k < length masks → ((c : ℕ) → bit (get_or masks k 0) c ≡ false → bit m c ≡ false)
+    → (j c : ℕ) → bit (get_or masks j 0) c ≡ false → bit (get_or (set masks k m) j 0) c ≡ false
+store_out masks k m h less j c e = grind (arith, stored masks k m j h, less c)

@@ -1,20 +1,20 @@
 -- The code of src/block.rt, over the arena of the arrays. Assumes nothing.
-use Prim.Native.Nat.{ℕ, suc, ◌+◌, ◌-◌, ◌*◌, ◌/◌, ◌%◌, ◌≤◌, ◌<◌}
+use Prim.Native.Nat.{ℕ, suc, ◌+◌, ◌*◌, ◌/◌, ◌%◌, ◌≤◌, ◌<◌}
 use mathlib.Core.Path.{◌≡◌, refl, sym, ◌∙◌, ap}
-use mathlib.Core.Bool.{Bool, true, false, not}
-use mathlib.Core.List.{List}
+use mathlib.Core.Bool.{Bool, true, false}
+use mathlib.Core.List.{List, []}
 use native.Mathlib.Omega.{arith}
 use native.Mathlib.Nat.{mul_comm, mul_assoc, mul-le-mul_right, suc-mul}
 use mir.Val.{Fits}
 use mir.Syntax.{w64}
 use lib.ListN.{length, get_or}
 use borrow.Author.Rules.{rules}
-use borrow.Author.Tests.{not-true, not-false, ltb-true, leb-true}
+use borrow.Author.Tests.{ltb-true, leb-true}
 use Rattle.theory.specs.Fold.{any_of}
-use Rattle.theory.specs.Game.{absent, to, Game}
+use Rattle.theory.specs.Game.{Game}
 use Rattle.theory.specs.Rounds.{Arena, bad, spoilt_by}
 use Rattle.theory.specs.Delay.{on_right, step}
-use Rattle.theory.proofs.Fold.{not_both, same_test, both_none, both_false, both_second, both_left, both_right}
+use Rattle.theory.proofs.Fold.{not_both, same_test, both_left, both_right}
 use Rattle.sheet.specs.Kinds.{controller_at, safe_at}
 use Rattle.sheet.specs.code.Arrays.{view_of, target_at}
 use Rattle.walk.specs.declared.level.Level.{Level}
@@ -25,7 +25,7 @@ use Rattle.walk.proofs.NodeLaws.{at_action}
 use Rattle.sheet.specs.Limits.{most_nodes}
 use Rattle.solver.specs.code.Work.{Work, spoil_row_to}
 use Rattle.solver.specs.code.Sweep.{Fitted}
-use Rattle.solver.specs.code.Block.{blocked_at, no_way, block_to, blocks_to}
+use Rattle.solver.specs.code.Block.{blocked_at, no_way, block_to}
 use Rattle.theory.proofs.Rounds.{spoilt_more}
 use Rattle.solver.proofs.BlockLaws.{row_position, row_step, even_outcomes, played_none}
 
@@ -74,61 +74,37 @@ module _ (p : List ℕ) (g : List (List ℕ)) (u f : List ℕ) (l : Level) (youn
   pub row_fits : Fits w64 (b * younger)
   row_fits = let h = row_whole in record { fits = omega arith }
 
-  -- the tests, one after the other
+  -- the tests
 
-  right_is : (arena_of p g u f l).right (b * younger) ≡ on_right l.odd (controller_at p) (b / l.actions)
+  pub right_is : (arena_of p g u f l).right (b * younger) ≡ on_right l.odd (controller_at p) (b / l.actions)
   unfolding arena_of view_of
   right_is = ap (on_right l.odd (controller_at p)) place
 
-  safe_is : (arena_of p g u f l).safe (b * younger) ≡ safe_at p (b / l.actions)
+  pub safe_is : (arena_of p g u f l).safe (b * younger) ≡ safe_at p (b / l.actions)
   unfolding arena_of view_of
   safe_is = ap (safe_at p) place
 
-  pub blocked_wrong : {r : Bool} → r ≡ on_right l.odd (controller_at p) (b / l.actions) → not r ≡ true
-      → false ≡ blocked_at (arena_of p g u f l) (b * younger)
-  unfolding blocked_at
-  blocked_wrong e n = sym (both_none _ _ (right_is ∙ sym e ∙ not-true _ n))
+  pub fails_odd : {t : Bool} → t ≡ spoilt_answer p g u f l [] 0 (b * younger) 0
+      → t ≡ spoilt_by (arena_of p g u f l) (λ j. false) (b * younger) 0
+  fails_odd e =
+      at_action (length p) l (b * younger) 0 sized row_inside fits.some_action e ∙ spoilt_none (arena_of p g u f l) [] (b * younger) 0
 
-  module _ {r : Bool} (er : r ≡ on_right l.odd (controller_at p) (b / l.actions)) (nr : not r ≡ false) where
-    pub blocked_unsafe : {s : Bool} → s ≡ safe_at p (b / l.actions) → not s ≡ true → false ≡ blocked_at (arena_of p g u f l) (b * younger)
-    unfolding blocked_at
-    blocked_unsafe e n = sym (both_false _ _ (both_none _ _ (safe_is ∙ sym e ∙ not-true _ n)))
+  pub fails_even : l.odd ≡ false → {t : Bool} → t ≡ no_way (safe_at p) (target_at g (b / l.actions) (b % l.actions))
+      → t ≡ spoilt_by (arena_of p g u f l) (λ j. false) (b * younger) 0
+  unfolding arena_of view_of spoilt_by
+  fails_even o e =
+      e
+      ∙ sym
+      (rw o
+      (ap (λ x. any_of (bad (λ j. false)) (step false G l.words x 0)) (let z : b * younger ≡ b * younger + 0 = omega arith in z)
+      ∙ ap (any_of (bad (λ j. false)))
+      (row_step G false l.words younger fits.some_action fits.some_younger whole b 0 fits.some_younger 0
+      ∙ even_outcomes G false l.words younger fits.some_action fits.some_younger whole (b / l.actions) (b % l.actions))
+      ∙ played_none G l.words (0 * l.actions + 0) (target_at g (b / l.actions) (b % l.actions))))
 
-    module _ {s : Bool} (es : s ≡ safe_at p (b / l.actions)) (ns : not s ≡ false) where
-      blocked_by : {t : Bool} → t ≡ spoilt_by (arena_of p g u f l) (λ j. false) (b * younger) 0 → t ≡ blocked_at (arena_of p g u f l) (b * younger)
-      unfolding blocked_at
-      blocked_by e =
-          e ∙ sym (both_second _ _ (right_is ∙ sym er ∙ not-false _ nr) ∙ both_second _ _ (safe_is ∙ sym es ∙ not-false _ ns))
+pub ruleset blocking = (rules, row_fits, right_is, safe_is, fails_odd, fails_even)
 
-      pub blocked_odd : (marks : List ℕ) {t : Bool} → t ≡ spoilt_answer p g u f l marks 0 (b * younger) 0
-          → t ≡ blocked_at (arena_of p g u f l) (b * younger)
-      blocked_odd marks e =
-          blocked_by
-          (at_action (length p) l (b * younger) 0 sized row_inside fits.some_action e ∙ spoilt_none (arena_of p g u f l) marks (b * younger) 0)
-
-      even_is : l.odd ≡ false → spoilt_by (arena_of p g u f l) (λ j. false) (b * younger) 0 ≡ no_way (safe_at p) (target_at g (b / l.actions) (b % l.actions))
-      unfolding arena_of view_of spoilt_by
-      even_is o =
-          rw o
-          (ap (λ x. any_of (bad (λ j. false)) (step false G l.words x 0)) (let z : b * younger ≡ b * younger + 0 = omega arith in z)
-          ∙ ap (any_of (bad (λ j. false)))
-          (row_step G false l.words younger fits.some_action fits.some_younger whole b 0 fits.some_younger 0
-          ∙ even_outcomes G false l.words younger fits.some_action fits.some_younger whole (b / l.actions) (b % l.actions))
-          ∙ played_none G l.words (0 * l.actions + 0) (target_at g (b / l.actions) (b % l.actions)))
-
-      pub blocked_absent : l.odd ≡ false → absent ≡ target_at g (b / l.actions) (b % l.actions)
-          → true ≡ blocked_at (arena_of p g u f l) (b * younger)
-      unfolding no_way
-      blocked_absent o e = blocked_by (sym (even_is o ∙ ap (no_way (safe_at p)) (sym e)))
-
-      pub blocked_even : l.odd ≡ false → {t v : ℕ} {x : Bool} → to t ≡ target_at g (b / l.actions) (b % l.actions)
-          → v ≡ t → x ≡ safe_at p v → not x ≡ blocked_at (arena_of p g u f l) (b * younger)
-      unfolding no_way
-      blocked_even o et d e = blocked_by (ap not (e ∙ ap (safe_at p) d) ∙ sym (even_is o ∙ ap (no_way (safe_at p)) (sym et)))
-
-pub ruleset blocking = (rules, row_fits, blocked_wrong, blocked_unsafe, blocked_odd, blocked_absent, blocked_even)
-
--- a row, and the loop over the rows
+-- a row
 module _ (E : Arena) (younger : ℕ) where
   pub block_passed : (w : Work) (b : ℕ) {t : Bool} → t ≡ blocked_at E (b * younger) → t ≡ false → w ≡ block_to E younger w b
   unfolding block_to
@@ -139,16 +115,4 @@ module _ (E : Arena) (younger : ℕ) where
   unfolding block_to
   block_fallen w b e n r = r ∙ rw (sym e ∙ n)
 
-  pub blocks_again : (w : Work) (b rows : ℕ) {x v : Work} → x ≡ blocks_to E younger w b (rows - b) → b < rows → v ≡ block_to E younger w b
-      → x ≡ blocks_to E younger v (b + 1) (rows - (b + 1))
-  unfolding blocks_to
-  blocks_again w b rows q h r =
-      let c : rows - b ≡ suc (rows - (b + 1)) = omega arith in
-      q ∙ ap (λ n. blocks_to E younger w b n) c ∙ ap (λ y. blocks_to E younger y (b + 1) (rows - (b + 1))) (sym r)
-
-  pub blocks_end : (w : Work) (b rows : ℕ) {x : Work} → x ≡ blocks_to E younger w b (rows - b) → rows ≤ b → w ≡ x
-  unfolding blocks_to
-  blocks_end w b rows q h = let c : rows - b ≡ 0 = omega arith in sym (q ∙ ap (λ n. blocks_to E younger w b n) c)
-
-  pub blocks_start : (w : Work) (rows : ℕ) → blocks_to E younger w 0 rows ≡ blocks_to E younger w 0 (rows - 0)
-  blocks_start w rows = let c : rows - 0 ≡ rows = omega arith in rw c
+pub ruleset blocks = (rules, row_fits, row_whole, block_fallen, block_passed)

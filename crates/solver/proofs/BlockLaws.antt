@@ -17,9 +17,9 @@ use Rattle.theory.specs.Table.{bit}
 use Rattle.theory.proofs.Fold.{bool, not_both, same?, below?, both_true, both_right, any_of_some, any_of_holds, any_of_fails}
 use Rattle.theory.proofs.Turns.{absent_not_to}
 use Rattle.theory.proofs.Masks.{zero_bit}
-use Rattle.solver.specs.code.Work.{Work, spoil_all_to, spoil_row_to}
+use Rattle.solver.specs.code.Work.{Work, steps_to, spoil_all_to, spoil_row_to}
 use Rattle.solver.specs.code.Block.{blocked_at, no_way, block_to, blocks_to}
-use Rattle.solver.proofs.StateLaws.{rank_of, mask_of, Fresh, Good, Goes, goes_none, goes_on, spoil_all_goes}
+use Rattle.solver.proofs.StateLaws.{rank_of, mask_of, Good, Goes, goes_none, goes_on, spoil_all_goes}
 use Rattle.solver.proofs.RoundLaws.{Marked}
 use Rattle.solver.proofs.BeforeLaws.{step_at, bad_absent, rest_below}
 use Rattle.solver.proofs.StartLaws.{first_rank_lem}
@@ -29,7 +29,7 @@ module _ (E : Arena) (n lo hi : ℕ) where
   spoil_row_goes : (count k : ℕ) (w : Work) → Good E n lo hi w
       → ((j : ℕ) → k ≤ j → j < k + count → E.right j ≡ true → (c : ℕ) → c < E.actions → spoilt_by E (fell (ranks_after E n)) j c ≡ true)
       → Goes E n lo hi w (spoil_row_to n w k count) × ((j c : ℕ) → k ≤ j → j < k + count → bit (mask_of (spoil_row_to n w k count) j) c ≡ false)
-  unfolding spoil_row_to
+  unfolding steps_to
   spoil_row_goes zero k w g bad = (goes_none E n lo hi w g, λ j c a b. absurd (omega arith))
   spoil_row_goes (suc count) k w g bad =
       let one = spoil_all_goes E n lo hi w g k (λ h r. bad k (omega arith) (omega arith) r) in
@@ -39,15 +39,12 @@ module _ (E : Arena) (n lo hi : ℕ) where
             ⊎_elim
             (λ (e : j ≡ k).
             more.0.went.out j c (ap (λ (x : ℕ). bit (mask_of (spoil_all_to n w k) x) c) e ∙ ap (λ (x : ℕ). bit x c) one.1 ∙ zero_bit c))
-            (λ e.
-            let u : k + 1 ≤ j = later j k a e in
+            (λ (e : j ≡ k → ⊥).
+            let u : k + 1 ≤ j = omega arith in
             let v : j < k + 1 + count = omega arith in
             more.1 j c u v)
             (same? j k),
       )
-    where
-      later : (j k : ℕ) → k ≤ j → (j ≡ k → ⊥) → k + 1 ≤ j
-      later j k c q = ⊎_elim (λ (z : j < k + 1). let e : j ≡ k = omega arith in absurd (q e)) (λ z. z) (below? j (k + 1))
 
 -- an action is spoilt before anything has fallen exactly if an outcome is absent
 module _ (E : Arena) (k c : ℕ) where
@@ -196,11 +193,7 @@ module _ (G : Game) (odd : Bool) (m younger : ℕ) (some : 0 < G.actions) (someY
   unsafe_none : (hi : ℕ) (w : Work) → Good E 1 0 hi w → (k c : ℕ) → k < E.nodes → E.right k ≡ true → E.safe k ≡ false → bit (mask_of w k) c ≡ false
   unsafe_none hi w g k c h r s =
       let one : get_or (ranks_after E 1) k 0 ≡ 1 = first_rank_lem E k h ∙ rw (both_true (E.right k) (not (E.safe k)) r (ap not s)) in
-      let fell-now : 0 < rank_of w k =
-      ⊎_elim
-      (λ (q : rank_of w k ≡ get_or (ranks_after E 1) k 0). omega arith)
-      (λ (f : Fresh E 1 w k). let z = f.stood in absurd (omega arith))
-      (g.rank k) in
+      let fell-now : 0 < rank_of w k = grind (arith, g.rank k) in
       ap (λ (x : ℕ). bit x c) (g.none k fell-now) ∙ zero_bit c
 
   -- the loop over the rows
@@ -244,15 +237,13 @@ module _ (G : Game) (odd : Bool) (m younger : ℕ) (some : 0 < G.actions) (someY
           (record {
             out = λ k c h l a r i.
                 let d = row_goes (sym is ∙ true-is) in
+                let m = mod-lt k someY in
+                let e = div-add-mod' k younger in
                 ⊎_elim
                 (λ (s : k / younger < b). d.0.went.out k c (rows.out k c h s a r i))
                 (λ (s : b ≤ k / younger).
-                let q : k / younger ≡ b = omega arith in
-                let p : b * younger + k % younger ≡ k = ap (λ (x : ℕ). x * younger + k % younger) (sym q) ∙ div-add-mod' k younger in
-                let m = mod-lt k someY in
-                let lo : b * younger ≤ k = omega arith in
-                let up : k < b * younger + younger = omega arith in
-                d.1 k c lo up)
+                let q : k / younger * younger ≡ b * younger = ap (λ (x : ℕ). x * younger) (let z : k / younger ≡ b = omega arith in z) in
+                d.1 k c (omega arith) (omega arith))
                 (below? (k / younger) b);
           })
 
@@ -269,7 +260,7 @@ module _ (G : Game) (odd : Bool) (m younger : ℕ) (some : 0 < G.actions) (someY
 
   blocks_goes : (hi count b : ℕ) (w : Work) → Good E 1 0 hi w → RowsMarked b w
       → Good E 1 0 hi (blocks_to E younger w b count) × RowsMarked (b + count) (blocks_to E younger w b count)
-  unfolding blocks_to block_to
+  unfolding steps_to block_to
   blocks_goes hi zero b w g r = let e : b + 0 ≡ b = omega arith in (g, rw e r)
   blocks_goes hi (suc count) b w g r =
       let e : b + 1 + count ≡ b + suc count = omega arith in
@@ -282,8 +273,8 @@ module _ (G : Game) (odd : Bool) (m younger : ℕ) (some : 0 < G.actions) (someY
       (bool (blocked_at E (b * younger)))
 
   -- all rows: the state is still good, and absent outcomes are marked
-  pub blocks_good : (hi : ℕ) (w : Work) → Good E 1 0 hi w → Good E 1 0 hi (blocks_to E younger w 0 (G.positions * A))
-  blocks_good hi w g = (blocks_goes hi (G.positions * A) 0 w g (rows_none w)).0
-
-  pub blocks_marked : (hi : ℕ) (w : Work) → Good E 1 0 hi w → Marked E (blocks_to E younger w 0 (G.positions * A)) absent
-  blocks_marked hi w g = rows_all (0 + G.positions * A) _ (omega arith) (blocks_goes hi (G.positions * A) 0 w g (rows_none w)).1
+  pub blocks_done : (hi : ℕ) (w : Work) → Good E 1 0 hi w
+      → Good E 1 0 hi (blocks_to E younger w 0 (G.positions * A)) × Marked E (blocks_to E younger w 0 (G.positions * A)) absent
+  blocks_done hi w g =
+      let r = blocks_goes hi (G.positions * A) 0 w g (rows_none w) in
+      (r.0, rows_all (0 + G.positions * A) _ (omega arith) r.1)

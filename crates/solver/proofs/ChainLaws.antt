@@ -1,15 +1,13 @@
 -- Chains visit exactly the places of their key. Assumes nothing.
 use Prim.Native.Nat.{ℕ, zero, suc, ◌+◌, ◌-◌, ◌≤◌, ◌<◌}
 use mathlib.Core.Path.{◌≡◌, refl, sym, ◌∙◌, ap}
-use mathlib.Core.Bool.{true, false}
 use mathlib.Core.Logic.{⊎_elim}
 use mathlib.Core.List.{List, [], ◌∷◌, Memᴰ}
 use native.Mathlib.Omega.{arith}
-use native.Mathlib.Numerals.{add-one}
 use lib.Dec.{eqb}
-use lib.ListN.{length, replicate, get_or, set, length-set, get_or-eq_default}
+use lib.ListN.{length, get_or, set, length-set, get_or-eq_default}
 use lib.Seq.{get_or-set_same, get_or-set_other}
-use borrow.Author.Tests.{eq-eqb, ne_eqb, lt-ltb, le-ltb}
+use borrow.Author.Tests.{eq-eqb, ne_eqb, lt-ltb}
 use Rattle.theory.proofs.Fold.{bool, same?, below?}
 use Rattle.solver.specs.code.Chains.{last_of, chain_of, chain, head_of, Linked}
 use Rattle.theory.specs.Game.{absent, to}
@@ -27,12 +25,7 @@ module _ (key : ℕ → ℕ) (x : ℕ) where
   pub last_le : (n : ℕ) → last_of key x n ≤ n
   unfolding last_of
   last_le zero = omega arith
-  last_le (suc n) =
-      let l = last_le n in
-      ⊎_elim
-      (λ (e : eqb (key n) x ≡ true). rw e (omega arith))
-      (λ (e : eqb (key n) x ≡ false). rw e (omega arith))
-      (bool (eqb (key n) x))
+  last_le (suc n) = grind (arith, last_le n, bool (eqb (key n) x))
 
 module _ (links : List ℕ) (down : (i : ℕ) → get_or links i 0 ≤ i) where
   ends : (f : ℕ) → chain_of links f 0 ≡ []
@@ -63,12 +56,6 @@ pub chain_done : (links : List ℕ) (e : ℕ) → (1 ≤ e → ⊥) → chain li
 chain_done links zero h = chain_end links
 chain_done links (suc i) h = absurd (h (omega arith))
 
--- arrays of zeros link nothing
-pub zeros : (n k : ℕ) → get_or (replicate {A = ℕ} n 0) k 0 ≡ 0
-zeros zero k = refl
-zeros (suc n) zero = refl
-zeros (suc n) (suc k) = zeros n k
-
 -- a chain that is not at its end
 pub chain_step : (links : List ℕ) (e : ℕ) {i l : ℕ} → ((k : ℕ) → get_or links k 0 ≤ k) → 1 ≤ e → i ≡ e - 1 → l ≡ get_or links i 0
     → chain links e ≡ i ∷ chain links l
@@ -78,10 +65,6 @@ chain_step links (suc j) {i} {l} d h p q = let r : i ≡ j = omega arith in rw (
 pub head_in : (heads : List ℕ) (x : ℕ) → x < index_entries → head_of heads x ≡ get_or heads x 0
 unfolding head_of
 head_in heads x h = rw (lt-ltb x index_entries h)
-
-pub head_out : (heads : List ℕ) (x : ℕ) → index_entries ≤ x → head_of heads x ≡ 0
-unfolding head_of
-head_out heads x h = rw (le-ltb x index_entries h)
 
 -- the places of an indexed chain, from the last one below b on
 module _ (key : ℕ → ℕ) (count : ℕ) (heads links : List ℕ) (ix : Linked key count heads links) where
@@ -116,18 +99,15 @@ module _ (key : ℕ → ℕ) (count : ℕ) (heads links : List ℕ) (ix : Linked
       rw c
       (⊎_elim
       (λ (q : i ≡ b). mathlib.Core.List.Memᴰ.head q)
-      (λ q. mathlib.Core.List.Memᴰ.tail (visited x b i s (omega arith) (let z = q in less i b l z) e))
+      (λ (q : i ≡ b → ⊥). mathlib.Core.List.Memᴰ.tail (visited x b i s (omega arith) (omega arith) e))
       (same? i b)))
       (λ d.
       rw (last_before key x b d)
       (⊎_elim
       (λ (q : i ≡ b). absurd (d (ap key (sym q) ∙ e)))
-      (λ q. visited x b i s (omega arith) (less i b l q) e)
+      (λ (q : i ≡ b → ⊥). visited x b i s (omega arith) (omega arith) e)
       (same? i b)))
       (same? (key b) x)
-    where
-      less : (i b : ℕ) → i < suc b → (i ≡ b → ⊥) → i < b
-      less i b h d = ⊎_elim (λ (z : i < b). z) (λ (z : b ≤ i). let q : i ≡ b = omega arith in absurd (d q)) (below? i b)
 
   pub chain_places : (x i : ℕ) → x < index_entries → Memᴰ i (chain links (head_of heads x)) → (i < count) × (key i ≡ x)
   chain_places x i h m = visits x count i h (omega arith) (rw (head_in heads x h, ix.head x h) at m)
@@ -162,27 +142,13 @@ module _ (key : ℕ → ℕ) (n : ℕ) (heads links : List ℕ) (ix : Linked key
       record {
         size = length-set {A = ℕ} heads x (n + 1) ∙ ix.size;
         head = λ y h.
-            ⊎_elim
-            (λ (q : y ≡ x). rw (q, add-one n) (get_or-set_same heads x (suc n) 0 (let s = ix.size in omega arith) ∙ sym (last_here key x n (sym e))))
-            (λ q. get_or-set_other heads x y (n + 1) 0 q ∙ ix.head y h ∙ sym (rw (add-one n) (last_before key y n (λ z. q (sym z ∙ sym e)))))
-            (same? y x);
+            let s = ix.size in
+            grind (arith, same? y x, get_or-set_same heads x (n + 1) 0, get_or-set_other heads x y (n + 1) 0, ix.head y, last_here key y n, last_before key y n);
         link = λ i h k.
-            ⊎_elim
-            (λ (q : i ≡ n).
-            rw q
-            (get_or-set_same links n (get_or heads x 0) 0 room
-            ∙ ix.head x (rw (e ∙ ap key (sym q)) k) ∙ ap (λ y. last_of key y n) e))
-            (λ q. get_or-set_other links n i (get_or heads x 0) 0 q ∙ ix.link i (less i h q) k)
-            (same? i n);
+            grind (arith, same? i n, get_or-set_same links n (get_or heads x 0) 0 room, get_or-set_other links n i (get_or heads x 0) 0, ix.head x, ix.link i);
         down = λ i.
-            ⊎_elim
-            (λ (q : i ≡ n). let f = linked_below key n heads links ix x in rw (q, get_or-set_same links n (get_or heads x 0) 0 room) f)
-            (λ q. rw (get_or-set_other links n i (get_or heads x 0) 0 q) (ix.down i))
-            (same? i n);
+            grind (arith, same? i n, linked_below key n heads links ix x, get_or-set_same links n (get_or heads x 0) 0 room, get_or-set_other links n i (get_or heads x 0) 0, ix.down i);
       }
-    where
-      less : (i : ℕ) → i < n + 1 → (i ≡ n → ⊥) → i < n
-      less i h d = ⊎_elim (λ (z : i < n). z) (λ (z : n ≤ i). let q : i ≡ n = omega arith in absurd (d q)) (below? i n)
 
 -- the code of src/index.rt
 

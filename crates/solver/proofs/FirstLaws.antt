@@ -2,7 +2,7 @@
 use Prim.Native.Nat.{ℕ, ◌+◌, ◌-◌, ◌*◌, ◌/◌, ◌≤◌, ◌<◌}
 use mathlib.Core.Path.{◌≡◌, sym, ◌∙◌, ap}
 use mathlib.Core.Bool.{Bool, true, false, cond}
-use mathlib.Core.Logic.{◌⊎◌, ⊎_elim}
+use mathlib.Core.Logic.{⊎_elim}
 use mathlib.Core.List.{List}
 use native.Mathlib.Omega.{arith}
 use native.Mathlib.Nat.{suc-mul}
@@ -10,7 +10,7 @@ use lib.Arith.{digits_lt, digits_div}
 use native.Mathlib.Numerals.{add-one}
 use lib.ListN.{length, get_or, set, length-set}
 use lib.Seq.{get_or-set_same, get_or-set_other}
-use Rattle.theory.proofs.Fold.{not_both, below_cases}
+use Rattle.theory.proofs.Fold.{not_both, same?, below_cases}
 use Rattle.walk.specs.declared.level.Level.{Level}
 use Rattle.walk.specs.code.Nodes.{Sized}
 use Rattle.sheet.specs.Limits.{most_nodes}
@@ -43,11 +43,7 @@ module _ (p : List ℕ) (l : Level) (full k : ℕ) (w : Work) (placed : Placed p
   -- an entry below k keeps what it was, and entry k is the new one
   entries : (f : ℕ → ℕ) (list : List ℕ) (v : ℕ) → length list ≡ l.nodes → v ≡ f k → ((j : ℕ) → j < k → get_or list j 0 ≡ f j)
       → (j : ℕ) → j < k + 1 → get_or (set list k v) j 0 ≡ f j
-  entries f list v n e old j h =
-      ⊎_elim
-      (λ (b : j < k). get_or-set_other list k j v 0 (λ z. omega arith) ∙ old j b)
-      (λ (b : j ≡ k). ap (λ (i : ℕ). get_or (set list k v) i 0) b ∙ get_or-set_same list k v 0 (omega arith) ∙ e ∙ ap f (sym b))
-      (below_cases (rw (add-one k) at h))
+  entries f list v n e old j h = grind (arith, same? j k, get_or-set_other list k j v 0, get_or-set_same list k v 0, old j)
 
   pub place_falls : {r : Bool} {mask : ℕ} → r ≡ here → r ≡ true → mask ≡ row_mask l.odd p full (k / l.words)
       → Placed p l full (k + 1) (work (set w.ranks k 1) (set w.masks k mask) (set w.queue w.tail k) (w.tail + 1))
@@ -61,8 +57,8 @@ module _ (p : List ℕ) (l : Level) (full k : ℕ) (w : Work) (placed : Placed p
         queue_size = length-set {A = ℕ} w.queue w.tail k ∙ placed.queue_size;
         ranks = entries (λ j. cond (row_falls l.odd p (j / l.words)) 1 0) w.ranks 1 placed.ranks_size (rw f) placed.ranks;
         masks = entries (λ j. row_mask l.odd p full (j / l.words)) w.masks mask placed.masks_size m placed.masks;
-        node = λ i a. ⊎_elim (λ (b : i < w.tail). let o = placed.node i b in rw (other i b) (omega arith)) (λ (b : i ≡ w.tail). rw (b, last) (omega arith)) (split i a);
-        fallen = λ i a. ⊎_elim (λ (b : i < w.tail). rw (other i b) (placed.fallen i b)) (λ (b : i ≡ w.tail). rw (b, last) f) (split i a);
+        node = λ i a. grind (arith, same? i w.tail, other i, last, placed.node i);
+        fallen = λ i a. grind (arith, same? i w.tail, other i, last, placed.fallen i);
         every = λ j a g.
             ⊎_elim
             (λ (b : j < k). let o = placed.every j b g in let i = o.1 in (o.0, (let z : o.0 < w.tail + 1 = omega arith in z), other o.0 o.1 ∙ o.2))
@@ -71,9 +67,6 @@ module _ (p : List ℕ) (l : Level) (full k : ℕ) (w : Work) (placed : Placed p
         count = counted f;
       }
     where
-      split : (i : ℕ) → i < w.tail + 1 → (i < w.tail) ⊎ (i ≡ w.tail)
-      split i a = below_cases (rw (add-one w.tail) at a)
-
       other : (i : ℕ) → i < w.tail → get_or (set w.queue w.tail k) i 0 ≡ get_or w.queue i 0
       other i b = get_or-set_other w.queue w.tail i k 0 (λ z. omega arith)
 
@@ -104,7 +97,7 @@ module _ (p : List ℕ) (l : Level) (full k : ℕ) (w : Work) (placed : Placed p
       }
 
 -- a node of row q
-module _ (p : List ℕ) (l : Level) (full q k : ℕ) (w : Work) (sized : Sized (length p) l) (h : q < length p) (a : q * l.words ≤ k)
+module _ {p : List ℕ} {l : Level} {full q k : ℕ} {w : Work} (sized : Sized (length p) l) (h : q < length p) (a : q * l.words ≤ k)
     (b : k < q * l.words + l.words) (placed : Placed p l full k w) where
   row_inside : k < l.nodes
   row_inside =
@@ -178,3 +171,7 @@ module _ (p : List ℕ) (l : Level) (full : ℕ) where
       let e : q ≡ length p = omega arith in
       let r : q * l.words ≡ l.nodes = ap (λ (x : ℕ). x * l.words) e ∙ sym sized.all_nodes in
       rw r at placed
+
+pub ruleset placing = (row_room, row_done)
+
+pub ruleset all_placing = (rows_start, rows_again, rows_done)

@@ -1,13 +1,11 @@
 -- One delay's nodes (src/levels.rt). Assumes nothing.
 use Prim.Native.Nat.{ℕ}
-use mathlib.Core.Path.{◌≡◌, sym, ◌∙◌, ap}
+use mathlib.Core.Path.{◌≡◌, ◌∙◌, ap}
 use mathlib.Core.Bool.{Bool, not, cond}
 use mathlib.Core.List.{List}
 use lib.ListN.{length}
 use Rattle.theory.specs.Fold.{tabulate}
-use Rattle.theory.specs.Rounds.{spoilt_by, kept, mask_below, mask_at, masks_by}
-use Rattle.theory.proofs.Region.{length_masks}
-use Rattle.sheet.specs.code.Arrays.{view_of}
+use Rattle.theory.specs.Rounds.{Arena, spoilt_by, kept, mask_below, mask_at, masks_by}
 use Rattle.walk.specs.declared.level.Level.{Level}
 use Rattle.walk.specs.code.Levels.{arena_of}
 use Rattle.walk.specs.code.Nodes.{Sized}
@@ -20,25 +18,16 @@ use Rattle.solver.specs.code.Working.{Worked}
 use Rattle.solver.specs.code.Search.{Leveled}
 
 pub level_rounds : (p : List ℕ) (g : List (List ℕ)) (u f : List ℕ) (l : Level) (before : List ℕ) {after left : List ℕ} {n : ℕ} → Sized (length p) l
-    → length before ≡ l.nodes → length left ≡ l.nodes → l.words ≡ 1 → RanksLeft p g u f l before after n → Leveled (arena_of p g u f l) l after left n
-level_rounds p g u f l before {after} {left} {n} sized e s one ranked =
+    → length before ≡ l.nodes → l.words ≡ 1 → RanksLeft p g u f l before after n → Leveled (arena_of p g u f l) l after left n
+level_rounds p g u f l before {after} {left} {n} sized e one ranked =
     record {
       final = ranked_ranks (length p) l _ _ _ after n sized e ranked;
       most = ranked_number (length p) l _ _ _ after n sized e ranked;
-      size = s;
       masks = λ many. absurd (many one);
     }
 
-pub level_worked : (p : List ℕ) (g : List (List ℕ)) (u f : List ℕ) (l : Level) {after left : List ℕ} {n : ℕ} → Sized (length p) l
-    → Worked (arena_of p g u f l) after left n → Leveled (arena_of p g u f l) l after left n
-unfolding arena_of view_of
-level_worked p g u f l sized w =
-    record {
-      final = w.ranks;
-      most = λ k. rw w.ranks (w.most k);
-      size = ap length w.masks ∙ length_masks (arena_of p g u f l) ∙ sym sized.all_nodes;
-      masks = λ many. w.masks;
-    }
+pub level_worked : {E : Arena} {l : Level} {after left : List ℕ} {n : ℕ} → Worked E after left n → Leveled E l after left n
+level_worked w = record { final = w.ranks; most = λ k. rw w.ranks (w.most k); masks = λ many. w.masks }
 
 -- the masks by the nodes of rank 1 to n are those by all ranks, where no rank is over n
 pub masks_all : (p : List ℕ) (g : List (List ℕ)) (u f : List ℕ) (l : Level) (n : ℕ) (ranks before : List ℕ) {after : List ℕ} → Sized (length p) l

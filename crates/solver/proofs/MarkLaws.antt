@@ -1,20 +1,20 @@
--- The loop over a row of nodes (src/block.rt). Assumes nothing.
+-- The loops over the nodes of a row, the rows and the queue's entries: what is left from here on is all that was to be done.
+-- Assumes nothing.
 use Prim.Native.Nat.{ℕ, suc, ◌+◌, ◌-◌, ◌≤◌, ◌<◌}
 use mathlib.Core.Path.{◌≡◌, sym, ◌∙◌, ap}
 use native.Mathlib.Omega.{arith}
-use Rattle.solver.specs.code.Work.{Work, spoil_all_to, spoil_row_to}
+use Rattle.solver.specs.code.Work.{Work, steps_to}
 
-module _ (n : ℕ) where
-  pub spoil_row_again : (w : Work) (i end : ℕ) {b v : Work} → b ≡ spoil_row_to n w i (end - i) → i < end → v ≡ spoil_all_to n w i
-      → b ≡ spoil_row_to n v (i + 1) (end - (i + 1))
-  unfolding spoil_row_to
-  spoil_row_again w i end q h e =
+module _ (f : Work → ℕ → Work) (w : Work) where
+  pub steps_again : (i end : ℕ) {b v : Work} → b ≡ steps_to f w i (end - i) → i < end → v ≡ f w i → b ≡ steps_to f v (i + 1) (end - (i + 1))
+  unfolding steps_to
+  steps_again i end q h e =
       let c : end - i ≡ suc (end - (i + 1)) = omega arith in
-      q ∙ ap (λ x. spoil_row_to n w i x) c ∙ ap (λ x. spoil_row_to n x (i + 1) (end - (i + 1))) (sym e)
+      q ∙ ap (λ x. steps_to f w i x) c ∙ ap (λ x. steps_to f x (i + 1) (end - (i + 1))) (sym e)
 
-  pub spoil_row_end : (w : Work) (i end : ℕ) {b : Work} → b ≡ spoil_row_to n w i (end - i) → end ≤ i → w ≡ b
-  unfolding spoil_row_to
-  spoil_row_end w i end q h = let c : end - i ≡ 0 = omega arith in sym (q ∙ ap (λ x. spoil_row_to n w i x) c)
+  pub steps_end : (i end : ℕ) {b : Work} → b ≡ steps_to f w i (end - i) → end ≤ i → w ≡ b
+  unfolding steps_to
+  steps_end i end q h = let c : end - i ≡ 0 = omega arith in sym (q ∙ ap (λ x. steps_to f w i x) c)
 
-  pub spoil_row_start : (w : Work) (k count : ℕ) → spoil_row_to n w k count ≡ spoil_row_to n w k (k + count - k)
-  spoil_row_start w k count = let c : k + count - k ≡ count = omega arith in ap (spoil_row_to n w k) (sym c)
+  pub steps_start : (k count end : ℕ) → end ≡ k + count → steps_to f w k count ≡ steps_to f w k (end - k)
+  steps_start k count end e = let c : end - k ≡ count = omega arith in ap (steps_to f w k) (sym c)

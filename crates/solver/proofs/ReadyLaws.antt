@@ -17,9 +17,9 @@ use Rattle.theory.proofs.Fold.{below?, same?}
 use Rattle.theory.proofs.Rounds.{fell_true, fell_rank, fell_node, rank_le}
 use Rattle.walk.specs.declared.level.Level.{Level}
 use Rattle.solver.specs.code.Spread.{Spot}
-use Rattle.solver.specs.code.Work.{Work, marks_to}
+use Rattle.solver.specs.code.Work.{Work, steps_to, marks_to}
 use Rattle.solver.specs.code.Sweep.{Index, Fitted, nodes_before, spread_to, sweep_to, Reverses}
-use Rattle.solver.proofs.StateLaws.{rank_of, mask_of, entry_of, Fresh, Good, Goes, goes_none, goes_on, marks_goes}
+use Rattle.solver.proofs.StateLaws.{rank_of, mask_of, entry_of, Good, Goes, goes_none, goes_on, marks_goes}
 use Rattle.solver.proofs.RoundLaws.{Marked, marked_still, AllMarked, round_ranks, round_good, round_final, round_most, round_masks}
 use Rattle.solver.proofs.BeforeLaws.{last_below_lem, even_sound, odd_sound, even_cover, odd_cover, some_words}
 
@@ -90,7 +90,7 @@ module _ (G : Game) (legal : Legal G) (l : Level) (younger : ℕ) (fits : Fitted
     sweep_goes : (some : 1 ≤ n) (count at : ℕ) (w : Work) → Good E n lo hi w → lo ≤ at → at + count ≤ hi
         → Goes E n lo hi w (sweep_to x l younger n w at count)
         × ((i : ℕ) → at ≤ i → i < at + count → Marked E (sweep_to x l younger n w at count) (to (entry_of w i)))
-    unfolding sweep_to
+    unfolding steps_to
     sweep_goes some zero at w g a b = (goes_none E n lo hi w g, λ i c d. absurd (omega arith))
     sweep_goes some (suc count) at w g a b =
         let r = g.old.ranked at a (omega arith) in
@@ -101,15 +101,13 @@ module _ (G : Game) (legal : Legal G) (l : Level) (younger : ℕ) (fits : Fitted
           λ i c d.
               ⊎_elim
               (λ (q : i ≡ at). rw q (marked_still more.0.went one.1))
-              (λ q.
+              (λ (q : i ≡ at → ⊥).
               let u : i < at + 1 + count = omega arith in
               let t : i < w.tail = omega arith in
-              rw (one.0.went.queue i t) at (more.1 i (later i at c q) u))
+              let v : at + 1 ≤ i = omega arith in
+              rw (one.0.went.queue i t) at (more.1 i v u))
               (same? i at),
         )
-      where
-        later : (i at : ℕ) → at ≤ i → (i ≡ at → ⊥) → at + 1 ≤ i
-        later i at c q = ⊎_elim (λ (z : i < at + 1). let e : i ≡ at = omega arith in absurd (q e)) (λ z. z) (below? i (at + 1))
 
     -- after the sweep all that has fallen is marked
     module _ (w : Work) (ready : Ready E n lo hi w) where
@@ -160,10 +158,7 @@ module _ (G : Game) (legal : Legal G) (l : Level) (younger : ℕ) (fits : Fitted
       before {u} g a j f h =
           let p = fell_rank (ranks_after E (suc (suc m))) j f in
           let q : rank_of u j ≡ get_or (ranks_after E (suc (suc m))) j 0 = ap (λ (y : List ℕ). get_or y j 0) (round_ranks E m lo hi u g a) in
-          ⊎_elim
-          (λ (r : rank_of u j ≡ get_or (ranks_after E (suc m)) j 0). fell_true (ranks_after E (suc m)) j (omega arith))
-          (λ (r : Fresh E (suc m) u j). let s = r.rank in absurd (omega arith))
-          (g.rank j)
+          grind (arith, g.rank j, fell_true (ranks_after E (suc m)) j)
 
   pub ready_done : (n lo hi : ℕ) (w : Work) (ready : Ready E n lo hi w) {v : Work} → v ≡ sweep_to x l younger n w lo (hi - lo)
       → v.tail ≤ hi → Finished E n v

@@ -3,7 +3,7 @@
 use Prim.Native.Nat.{ℕ, suc, ◌≤◌, ◌<◌}
 use mathlib.Core.Path.{◌≡◌, sym, ◌∙◌, ap}
 use mathlib.Core.Bool.{true, false, not}
-use mathlib.Core.Logic.{inl, ⊎_elim}
+use mathlib.Core.Logic.{inl}
 use mathlib.Core.List.{List, Memᴰ}
 use native.Mathlib.Omega.{arith}
 use native.Mathlib.Numerals.{add-one}
@@ -13,11 +13,11 @@ use lib.Seq.{ext_get_or}
 use Rattle.theory.specs.Game.{Target, absent, to}
 use Rattle.theory.specs.Rounds.{Arena, bad, spoilt_by, fell, node_falls, rank_in, ranks_after, final_ranks, kept_by, mask_below, mask_at, masks_by, masks}
 use Rattle.theory.specs.Table.{bit}
-use Rattle.theory.proofs.Fold.{bool, not_both, both_none, both_false, both_true, all_at, all_below_lem, any_of_some, length_tabulate, get_d_tabulate}
+use Rattle.theory.proofs.Fold.{bool, both_none, both_false, both_true, all_at, all_below_lem, any_of_some, length_tabulate, get_d_tabulate}
 use Rattle.theory.proofs.Rounds.{spoilt_more, fell_true, fell_rank, stood_rank, in_fallen, in_fell, in_stands, length_after, rank_suc, rank_le, final_is}
 use Rattle.theory.proofs.Masks.{bits_ext, zero_bit, mask_lt, mask_bit}
 use Rattle.solver.specs.code.Work.{Work}
-use Rattle.solver.proofs.StateLaws.{rank_of, mask_of, Segment, Fresh, Good, Went}
+use Rattle.solver.proofs.StateLaws.{rank_of, mask_of, Segment, Good, Went}
 
 -- every action with this outcome is marked
 pub record Marked (E : Arena) (w : Work) (o : Target) : Type 0 where
@@ -59,47 +59,24 @@ module _ (E : Arena) (m lo hi : ℕ) (w : Work) (g : Good E (suc m) lo hi w) (al
 
   rank_next : (k : ℕ) → k < E.nodes → rank_of w k ≡ rank_in E (suc m) old k
   rank_next k h =
-      ⊎_elim
-      (λ (e : fell old k ≡ true).
-      ⊎_elim
-      (λ (q : rank_of w k ≡ get_or old k 0). q)
-      (λ (f : Fresh E (suc m) w k). let z = f.stood in let p = fell_rank old k e in absurd (omega arith))
-      (g.rank k)
-      ∙ sym (in_fallen E (suc m) old k e))
-      (λ (e : fell old k ≡ false).
-      ⊎_elim (λ (r : E.right k ≡ true). on_right_lem e r) (λ (r : E.right k ≡ false). on_wrong e r) (bool (E.right k)))
-      (bool (fell old k))
-    where
-      on_wrong : fell old k ≡ false → E.right k ≡ false → rank_of w k ≡ rank_in E (suc m) old k
-      on_wrong e r =
-          ⊎_elim
-          (λ (q : rank_of w k ≡ get_or old k 0). q ∙ stood_rank old k e)
-          (λ (f : Fresh E (suc m) w k). absurd (not_both f.right r))
-          (g.rank k)
-          ∙ sym (in_stands E (suc m) old k e (both_none _ _ r))
-
-      on_right_lem : fell old k ≡ false → E.right k ≡ true → rank_of w k ≡ rank_in E (suc m) old k
-      on_right_lem e r =
-          ⊎_elim
-          (λ (f : node_falls E (suc m) old k ≡ true).
-          ⊎_elim
-          (λ (q : rank_of w k ≡ get_or old k 0).
-          let z = stood_rank old k e in
-          let l = g.left k h r (q ∙ z) in
-          let o = none_left k h r f in
-          absurd (omega arith))
-          (λ (t : Fresh E (suc m) w k). t.rank ∙ add-one (suc m))
-          (g.rank k)
-          ∙ sym (in_fell E (suc m) old k e r f))
-          (λ (f : node_falls E (suc m) old k ≡ false).
-          ⊎_elim
-          (λ (q : rank_of w k ≡ get_or old k 0). q ∙ stood_rank old k e)
-          (λ (t : Fresh E (suc m) w k).
-          let p = t.rank in
-          absurd (not_both (none_falls k h r t.stood (g.none k (omega arith))) f))
-          (g.rank k)
-          ∙ sym (in_stands E (suc m) old k e (both_false _ _ f)))
-          (bool (node_falls E (suc m) old k))
+      grind (
+        arith,
+        bool (fell old k),
+        bool (E.right k),
+        bool (node_falls E (suc m) old k),
+        g.rank k,
+        in_fallen E (suc m) old k,
+        in_stands E (suc m) old k,
+        in_fell E (suc m) old k,
+        both_none (E.right k) (node_falls E (suc m) old k),
+        both_false (E.right k) (node_falls E (suc m) old k),
+        fell_rank old k,
+        stood_rank old k,
+        none_left k h,
+        none_falls k h,
+        g.left k h,
+        g.none k,
+      )
 
   pub round_ranks : w.ranks ≡ ranks_after E (suc (suc m))
   round_ranks =
@@ -120,11 +97,7 @@ module _ (E : Arena) (m lo hi : ℕ) (w : Work) (g : Good E (suc m) lo hi w) (al
         wrong = g.wrong;
         small = g.small;
         sound = λ k c h r z a e.
-            let stood : get_or old k 0 ≡ 0 =
-            ⊎_elim
-            (λ (q : rank_of w k ≡ get_or old k 0). sym q ∙ ap (λ (l : List ℕ). get_or l k 0) eq ∙ z)
-            (λ (f : Fresh E (suc m) w k). f.stood)
-            (g.rank k) in
+            let stood : get_or old k 0 ≡ 0 = grind (arith, g.rank k, ap (λ (l : List ℕ). get_or l k 0) eq) in
             spoilt_more E (fell old) (fell (ranks_after E (suc (suc m)))) k c more (g.sound k c h r stood a e);
         old = before eq;
         new =
@@ -153,25 +126,14 @@ module _ (E : Arena) (m lo hi : ℕ) (w : Work) (g : Good E (suc m) lo hi w) (al
       more j e =
           let p = fell_rank old j e in
           let q : rank_of w j ≡ get_or (ranks_after E (suc (suc m))) j 0 = ap (λ (l : List ℕ). get_or l j 0) round_ranks in
-          ⊎_elim
-          (λ (o : rank_of w j ≡ get_or old j 0). fell_true (ranks_after E (suc (suc m))) j (omega arith))
-          (λ (f : Fresh E (suc m) w j). let z = f.stood in absurd (omega arith))
-          (g.rank j)
+          grind (arith, g.rank j, fell_true (ranks_after E (suc (suc m))) j)
 
   -- nothing new has fallen
   module _ (quiet : w.tail ≤ hi) where
     same_ranks : w.ranks ≡ old
     same_ranks =
         ext_get_or 0 _ _ (g.ranks_size ∙ sym (length_after E (suc m)))
-        (λ k h.
-        ⊎_elim
-        (λ (q : rank_of w k ≡ get_or old k 0). q)
-        (λ (f : Fresh E (suc m) w k).
-        let x = g.new.every k (let s = g.ranks_size in omega arith) f.rank in
-        let a = x.1 in
-        let b = x.2 in
-        absurd (omega arith))
-        (g.rank k))
+        (λ k h. let s = g.ranks_size in grind (arith, g.rank k, g.new.every k))
 
     final_old : final_ranks E ≡ old
     final_old = final_is E m (sym round_ranks ∙ same_ranks)
@@ -187,34 +149,32 @@ module _ (E : Arena) (m lo hi : ℕ) (w : Work) (g : Good E (suc m) lo hi w) (al
     mask_kept k h r z =
         bits_ext E.actions _ _ (g.small k) (mask_lt _ E.actions)
         (λ c a.
-        ⊎_elim
-        (λ (s : spoilt_by E (fell old) k c ≡ true). spoilt_out k c h a r s ∙ sym (ap not s))
-        (λ (s : spoilt_by E (fell old) k c ≡ false). set c a s ∙ sym (ap not s))
-        (bool (spoilt_by E (fell old) k c))
-        ∙ sym (mask_bit (λ d. not (spoilt_by E (fell old) k d)) E.actions c a))
-      where
-        set : (c : ℕ) → c < E.actions → spoilt_by E (fell old) k c ≡ false → bit (mask_of w k) c ≡ true
-        set c a s =
-            ⊎_elim
-            (λ t. t)
-            (λ (t : bit (mask_of w k) c ≡ false). absurd (not_both (g.sound k c h r z a t) s))
-            (bool (bit (mask_of w k) c))
+        grind (
+          arith,
+          bool (spoilt_by E (fell old) k c),
+          bool (bit (mask_of w k) c),
+          spoilt_out k c h a r,
+          g.sound k c h r z a,
+          mask_bit (λ d. not (spoilt_by E (fell old) k d)) E.actions c a,
+        ))
 
     mask_is : (k : ℕ) → k < E.nodes → mask_of w k ≡ mask_at E old k
     unfolding mask_at kept_by
     mask_is k h =
-        ⊎_elim
-        (λ (r : E.right k ≡ true).
-        ⊎_elim
-        (λ (e : fell old k ≡ true).
-        let p = fell_rank old k e in
-        let q : rank_of w k ≡ get_or old k 0 = ap (λ (l : List ℕ). get_or l k 0) same_ranks in
-        g.none k (omega arith) ∙ rw (both_false (E.right k) (not (fell old k)) (ap not e)))
-        (λ (e : fell old k ≡ false).
-        mask_kept k h r (stood_rank old k e) ∙ rw (both_true (E.right k) (not (fell old k)) r (ap not e)))
-        (bool (fell old k)))
-        (λ (r : E.right k ≡ false). g.wrong k r ∙ rw (both_none (E.right k) (not (fell old k)) r))
-        (bool (E.right k))
+        grind (
+          arith,
+          bool (E.right k),
+          bool (fell old k),
+          fell_rank old k,
+          ap (λ (l : List ℕ). get_or l k 0) same_ranks,
+          g.none k,
+          g.wrong k,
+          mask_kept k h,
+          stood_rank old k,
+          both_false (E.right k) (not (fell old k)),
+          both_true (E.right k) (not (fell old k)),
+          both_none (E.right k) (not (fell old k)),
+        )
 
     pub round_masks : w.masks ≡ masks E
     unfolding masks masks_by

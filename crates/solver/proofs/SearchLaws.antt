@@ -2,7 +2,6 @@
 use Prim.Native.Nat.{ℕ, ◌+◌, ◌-◌, ◌/◌, ◌^◌, ◌≤◌, ◌<◌}
 use mathlib.Core.Path.{◌≡◌, refl, sym, ◌∙◌, ap}
 use mathlib.Core.Bool.{Bool, true, false}
-use mathlib.Core.Logic.{⊎_elim}
 use mathlib.Core.List.{List, ◌++◌}
 use native.Mathlib.Omega.{arith}
 use lib.ListN.{length, take, drop, length-append, length-drop}
@@ -10,7 +9,7 @@ use lib.Seq.{take_at, drop-append-add, drop-drop, length-take-le}
 use borrow.Author.Rules.{rules}
 use Rattle.theory.specs.Fold.{any_below}
 use Rattle.theory.specs.Game.{Game, Legal}
-use Rattle.theory.specs.Rounds.{final_ranks, masks}
+use Rattle.theory.specs.Rounds.{Arena, final_ranks, masks}
 use Rattle.theory.specs.Delay.{wins, losing, words, arena, winning, answer}
 use Rattle.theory.proofs.Fold.{below?}
 use Rattle.theory.proofs.Rounds.{final_length}
@@ -19,83 +18,139 @@ use Rattle.sheet.specs.Size.{nodes_of}
 use Rattle.walk.specs.declared.level.Level.{Level}
 use Rattle.walk.specs.code.Levels.{arena_of}
 use Rattle.sheet.specs.code.Arrays.{view_of}
-use Rattle.walk.specs.code.Nodes.{Sized}
 use Rattle.rounds.specs.code.Falling.{AtMost}
 use Rattle.walk.specs.code.Levels.{Room, level_at, level_to}
 use Rattle.region.specs.code.Kept.{good_in, first_words, some_good}
 use Rattle.solver.specs.Solving.{solved_delay}
-use Rattle.solver.specs.code.Sweep.{Index}
+use Rattle.solver.specs.code.Sweep.{Index, Indexed}
 use Rattle.solver.specs.code.Working.{Levelable}
 use Rattle.solver.proofs.SheetLaws.{levelable}
-use Rattle.solver.specs.code.Search.{verdict_by, Stopped, Leveled, MasksStopped, Searchable}
+use Rattle.solver.specs.code.Search.{verdict_by, Stopped, Leveled, MasksStopped, Fillable}
 use Rattle.theory.specs.Buffer.{over}
 use Rattle.walk.proofs.LevelLaws.{level_whole, nodes_less, room_less, level_sized, arena_is, nodes_is}
 use Rattle.region.proofs.GoodLaws.{good_known, winning_is}
 use Rattle.sheet.specs.Limits.{most_positions}
 
--- every delay below d wins, and nothing beyond the nodes of delay d has changed
-pub record Searched (G : Game) (nodes delay d : ℕ) (before ranks : List ℕ) : Type 0 where
+-- the arena of the same arrays
+pub arena_same : {p q : List ℕ} {g h : List (List ℕ)} {u v f e : List ℕ} (l : Level) → q ≡ p → h ≡ g → v ≡ u → e ≡ f
+    → arena_of q h v e l ≡ arena_of p g u f l
+arena_same l a b c d = rw (a, b, c, d)
+
+pub words_at_lem : (p : List ℕ) (g : List (List ℕ)) (u f : List ℕ) (start actions d : ℕ) → words (view_of p g u f start actions) d ≡ actions ^ (d / 2)
+unfolding words view_of
+words_at_lem p g u f start actions d = refl
+
+-- nothing of a buffer beyond so many entries has changed
+pub record Beyond (nodes : ℕ) (before after : List ℕ) : Type 0 where
+  pub size : length after ≡ length before
+  pub rest : drop nodes after ≡ drop nodes before
+
+pub beyond_start : (n : ℕ) (before : List ℕ) → Beyond n before before
+beyond_start n before = record { size = refl; rest = refl }
+
+-- every delay below d wins
+pub record Searched (G : Game) (delay d : ℕ) : Type 0 where
   pub asked : d ≤ delay
-  pub room : length ranks ≡ length before
-  pub beyond : drop nodes ranks ≡ drop nodes before
   pub won : (j : ℕ) → j < d → winning G j ≡ true
 
--- the arrays, the numbers of a sheet, a buffer with room, and the search at delay d with the ranks in old
+-- one of the two buffers at delay d, with the numbers of a sheet
+module _ (p : List ℕ) (start actions delay : ℕ) (before old : List ℕ) (d : ℕ)
+    (same : Beyond (nodes_of (length p) actions d) before old) {l : Level} (made : l ≡ level_to (length p) start actions d)
+    (room : Room (length p) actions delay) (asked : d ≤ delay) (enough : nodes_of (length p) actions delay ≤ length before) where
+  abbrev owed : ℕ
+  owed = nodes_of (length p) actions d
+
+  level_is : l ≡ level_at (length p) start actions d
+  level_is = made ∙ level_whole (room_less room asked) start
+
+  level_owed : l.nodes ≡ owed
+  level_owed = ap (λ (x : Level). x.nodes) level_is
+
+  pub nodes_inside : l.nodes ≤ length old
+  nodes_inside = let n = nodes_less room asked in let e = same.size in let o = level_owed in omega arith
+
+  pub front_length : length (take l.nodes old) ≡ l.nodes
+  front_length = length-take-le l.nodes old nodes_inside
+
+  -- after the rounds, which keep the length of what is lent
+  module _ (left : List ℕ) (size : length left ≡ length (take l.nodes old)) where
+    left_size : length left ≡ owed
+    left_size = size ∙ front_length ∙ level_owed
+
+    length_kept : length (left ++ drop l.nodes old) ≡ length before
+    length_kept =
+        let n = left_size in
+        let m = level_owed in
+        let e = same.size in
+        let i = nodes_inside in
+        rw (length-append left (drop l.nodes old), length-drop l.nodes old) (omega arith)
+
+    pub after_inside : l.nodes ≤ length (left ++ drop l.nodes old)
+    after_inside = let n = length_kept in let e = same.size in let i = nodes_inside in omega arith
+
+    pub after_front : length (take l.nodes (left ++ drop l.nodes old)) ≡ l.nodes
+    after_front = length-take-le l.nodes (left ++ drop l.nodes old) after_inside
+
+    beyond_at : (k : ℕ) → drop (owed + k) (left ++ drop l.nodes old) ≡ drop (owed + k) before
+    beyond_at k =
+        let z : owed + k ≡ length left + k = let n = left_size in omega arith in
+        ap (λ x. drop x (left ++ drop l.nodes old)) z
+        ∙ drop-append-add left (drop l.nodes old) k
+        ∙ ap (λ x. drop k (drop x old)) level_owed
+        ∙ ap (drop k) same.rest
+        ∙ drop-drop k owed before
+
+    pub beyond_next : (d ≡ delay → ⊥) → Beyond (nodes_of (length p) actions (d + 1)) before (left ++ drop l.nodes old)
+    beyond_next e =
+        let a = asked in
+        let b : d + 1 ≤ delay = omega arith in
+        let c : d ≤ d + 1 = omega arith in
+        let m = nodes_less (room_less room b) c in
+        let k = nodes_of (length p) actions (d + 1) - owed in
+        let q : owed + k ≡ nodes_of (length p) actions (d + 1) = omega arith in
+        record { size = length_kept; rest = rw q at (beyond_at k) }
+
+    pub masks_stop : (g : List (List ℕ)) (u f : List ℕ) (E : Arena) → E ≡ arena_of p g u f l → (ranks : List ℕ) (n : ℕ) → Leveled E l ranks left n
+        → MasksStopped (view_of p g u f start actions) d before (left ++ drop l.nodes old)
+    masks_stop g u f E here ranks n done =
+        let q : owed + 0 ≡ (arena (view_of p g u f start actions) d).nodes = (let e = nodes_is p g u f start actions d in omega arith) in
+        let z : owed ≡ (arena (view_of p g u f start actions) d).nodes = sym (nodes_is p g u f start actions d) in
+        record {
+          size = length_kept;
+          beyond =
+              ap (λ (x : ℕ). drop x (left ++ drop l.nodes old)) (sym q) ∙ beyond_at 0 ∙ ap (λ (x : ℕ). drop x before) q;
+          made = λ many.
+              ap (λ (x : ℕ). take x (left ++ drop l.nodes old)) (sym z)
+              ∙ take_at left (drop l.nodes old) owed left_size
+              ∙ done.masks (λ one. many (words_at_lem p g u f start actions d ∙ sym (ap (λ (x : Level). x.words) level_is) ∙ one))
+              ∙ ap masks here
+              ∙ ap (λ x. masks (arena_of p g u f x)) level_is
+              ∙ ap masks (arena_is p g u f start actions d);
+        }
+
+-- the search at delay d, with the ranks in old
 module _ (p : List ℕ) (g : List (List ℕ)) (u f : List ℕ) (start actions delay : ℕ) (before old : List ℕ) (d : ℕ)
     (room : Room (length p) actions delay) (enough : nodes_of (length p) actions delay ≤ length before)
     (legal : Legal (view_of p g u f start actions))
-    (searched : Searched (view_of p g u f start actions) (nodes_of (length p) actions d) delay d before old) where
+    (searched : Searched (view_of p g u f start actions) delay d) (kept : Beyond (nodes_of (length p) actions d) before old)
+    (l : Level) (made : l ≡ level_to (length p) start actions d) where
   abbrev G : Game
   G = view_of p g u f start actions
 
-  abbrev nodes : ℕ
-  nodes = nodes_of (length p) actions d
+  is : l ≡ level_at (length p) start actions d
+  is = level_is p start actions delay before old d kept made room searched.asked enough
 
-  room_here : Room (length p) actions d
-  room_here = room_less room searched.asked
-
-  fit : nodes ≤ length old
-  fit =
-      let l = nodes_less room searched.asked in
-      let e = searched.room in
-      omega arith
-
-  next : d ≤ delay → (d ≡ delay → ⊥) → d + 1 ≤ delay
-  next a e = omega arith
-
-  whole : {l : Level} → l ≡ level_to (length p) start actions d → l ≡ level_at (length p) start actions d
-  whole made = made ∙ level_whole room_here start
-
-  level_here : {l : Level} → l ≡ level_to (length p) start actions d → Sized (length p) l
-  level_here made = rw (whole made) (level_sized room_here start)
-
-  start_here : {l : Level} → l ≡ level_to (length p) start actions d → l.start < most_positions
+  start_here : l.start < most_positions
   unfolding view_of
-  start_here made = let s = legal.start_position in let f = room.few_positions in rw made (omega arith)
+  start_here = let s = legal.start_position in let f = room.few_positions in rw made (omega arith)
 
-  pub fits_here : {l : Level} → l ≡ level_to (length p) start actions d → l.nodes ≤ length old
-  fits_here made = rw (whole made) fit
-
-  pub front_length : {l : Level} → l ≡ level_to (length p) start actions d → length (take l.nodes old) ≡ l.nodes
-  front_length {l} made = length-take-le l.nodes old (fits_here made)
-
-  -- the rounds gave these ranks at this level
-  module _ (l : Level) (made : l ≡ level_to (length p) start actions d) (ranks left : List ℕ) (n : ℕ)
-      (ranked : Leveled (arena_of p g u f l) l ranks left n) where
-    is : l ≡ level_at (length p) start actions d
-    is = whole made
-
-    final : ranks ≡ final_ranks (arena_of p g u f l)
-    final = ranked.final
-
+  -- the rounds gave these ranks
+  module _ (E : Arena) (same : E ≡ arena_of p g u f l) (ranks left : List ℕ) (n : ℕ) (ranked : Leveled E l ranks left n) where
     ranks_here : ranks ≡ final_ranks (arena G d)
-    ranks_here = final ∙ ap (λ x. final_ranks (arena_of p g u f x)) is ∙ ap final_ranks (arena_is p g u f start actions d)
+    ranks_here = ranked.final ∙ ap final_ranks (same ∙ ap (arena_of p g u f) is ∙ arena_is p g u f start actions d)
 
-    ranks_length : length ranks ≡ nodes
-    ranks_length = ap length ranks_here ∙ final_length (arena G d) ∙ nodes_is p g u f start actions d
-
-    level_nodes : l.nodes ≡ nodes
-    level_nodes = ap (λ (x : Level). x.nodes) is
+    ranks_length : length ranks ≡ l.nodes
+    ranks_length = ap length ranks_here ∙ final_length (arena G d) ∙ nodes_is p g u f start actions d ∙ sym (ap (λ (x : Level). x.nodes) is)
 
     -- the buffer after them
     abbrev after : List ℕ
@@ -104,28 +159,13 @@ module _ (p : List ℕ) (g : List (List ℕ)) (u f : List ℕ) (start actions de
     after_over : after ≡ over (final_ranks (arena G d)) before
     unfolding over
     after_over =
-        ap (λ x. ranks ++ drop x old) level_nodes
-        ∙ ap (λ x. ranks ++ x) searched.beyond
-        ∙ ap (λ (x : List ℕ). x ++ drop nodes before) ranks_here
-        ∙ ap (λ x. final_ranks (arena G d) ++ drop x before) (sym (ap length (sym ranks_here) ∙ ranks_length))
-
-    pub after_length : length after ≡ length before
-    after_length =
-        let n = ranks_length in
-        let m = level_nodes in
-        let e = searched.room in
-        let i = fit in
-        rw (length-append ranks (drop l.nodes old), length-drop l.nodes old) (omega arith)
-
-    pub after_room : l.nodes ≤ length after
-    after_room = let n = after_length in let m = level_nodes in let e = searched.room in let i = fit in omega arith
-
-    -- the part that is lent on
-    pub after_front : length (take l.nodes after) ≡ l.nodes
-    after_front = length-take-le l.nodes after after_room
+        ap (λ x. ranks ++ drop x old) (ap (λ (x : Level). x.nodes) is)
+        ∙ ap (λ x. ranks ++ x) kept.rest
+        ∙ ap (λ x. ranks ++ drop x before) (sym (ranks_length ∙ ap (λ (x : Level). x.nodes) is))
+        ∙ ap (λ (x : List ℕ). x ++ drop (length x) before) ranks_here
 
     front_here : take l.nodes after ≡ ranks
-    front_here = take_at ranks (drop l.nodes old) l.nodes (ranks_length ∙ sym level_nodes)
+    front_here = take_at ranks (drop l.nodes old) l.nodes ranks_length
 
     most_here : AtMost n (final_ranks (arena G d))
     most_here = rw (← ranks_here) ranked.most
@@ -134,7 +174,7 @@ module _ (p : List ℕ) (g : List (List ℕ)) (u f : List ℕ) (start actions de
       tested : r ≡ winning G d
       tested =
           winning_is p g u f start actions d ranks_here
-          (good_known p g l _ (level_here made) (start_here made) some
+          (good_known p g l _ (rw is (level_sized (room_less room searched.asked) start)) start_here some
           ∙ ap (λ x. any_below (good_in p g l x) (first_words l)) front_here
           ∙ ap (λ x. any_below (good_in p g x ranks) (first_words x)) is)
 
@@ -167,146 +207,31 @@ module _ (p : List ℕ) (g : List (List ℕ)) (u f : List ℕ) (start actions de
             rounds = most_here;
           }
 
-      -- on to the next delay, which has no fewer nodes
-      pub searched_next : r ≡ true → (d ≡ delay → ⊥)
-          → Searched G (nodes_of (length p) actions (d + 1)) delay (d + 1) before after
+      -- on to the next delay
+      pub searched_next : r ≡ true → (d ≡ delay → ⊥) → Searched G delay (d + 1)
       searched_next x e =
           let a = searched.asked in
-          record { asked = omega arith; room = after_length; beyond = rest; won = all }
-        where
-          more : nodes_of (length p) actions d ≤ nodes_of (length p) actions (d + 1)
-          more = let a = searched.asked in nodes_less (room_less room (next a e)) (omega arith)
-
-          all : (j : ℕ) → j < d + 1 → winning G j ≡ true
-          all j h =
-              ⊎_elim
-              (λ (i : j < d). searched.won j i)
-              (λ (i : d ≤ j). let q : j ≡ d = omega arith in rw q (won_here x))
-              (below? j d)
-
-          rest : drop (nodes_of (length p) actions (d + 1)) after ≡ drop (nodes_of (length p) actions (d + 1)) before
-          rest =
-              let m = more in
-              let k = nodes_of (length p) actions (d + 1) - nodes in
-              let q : nodes_of (length p) actions (d + 1) ≡ nodes + k = omega arith in
-              let z : nodes + k ≡ length ranks + k = let n = ranks_length in omega arith in
-              ap (λ x. drop x after) (q ∙ z)
-              ∙ drop-append-add ranks (drop l.nodes old) k
-              ∙ ap (λ x. drop k (drop x old)) level_nodes
-              ∙ ap (drop k) searched.beyond
-              ∙ drop-drop k nodes before
-              ∙ ap (λ x. drop x before) (sym q)
+          record {
+            asked = omega arith;
+            won = λ j h. grind (arith, below? j d, searched.won j, won_here x);
+          }
 
 -- the level can be solved
-pub level_can : (p : List ℕ) (g : List (List ℕ)) (u f : List ℕ) (x : Index) (start actions delay : ℕ) (masks before old : List ℕ) (d : ℕ)
-    → Searchable p g u f x start actions delay masks before
-    → Searched (view_of p g u f start actions) (nodes_of (length p) actions d) delay d before old → {l : Level}
-    → l ≡ level_to (length p) start actions d → Levelable p g u f x l
-level_can p g u f x start actions delay masks before old d can searched made =
+pub level_can : (p : List ℕ) (g : List (List ℕ)) (u f : List ℕ) (x : Index) (start actions delay : ℕ) (masks before : List ℕ) (d : ℕ)
+    → Fillable p g u f start actions delay masks before → Indexed u g delay x
+    → Searched (view_of p g u f start actions) delay d → {l : Level}
+    → l ≡ level_to (length p) start actions d → {q v e : List ℕ} {h : List (List ℕ)} → q ≡ p → h ≡ g → v ≡ u → e ≡ f → Levelable q h v e x l
+level_can p g u f x start actions delay masks before d can index searched made a b c k =
     let room = room_less can.room searched.asked in
-    levelable p g u f x start actions delay d room can.legal can.moves can.indexed searched.asked
-    (made ∙ level_whole room start)
+    rw (a, b, c, k)
+    (levelable p g u f x start actions delay d room can.legal can.moves index searched.asked
+    (made ∙ level_whole room start))
 
--- nothing beyond so many masks has changed
-pub record Beyond (nodes : ℕ) (before masks : List ℕ) : Type 0 where
-  pub size : length masks ≡ length before
-  pub rest : drop nodes masks ≡ drop nodes before
+pub searched_start : (G : Game) (delay : ℕ) → Searched G delay 0
+searched_start G delay = record { asked = omega arith; won = λ j h. absurd (omega arith) }
 
-pub beyond_start : (n : ℕ) (before : List ℕ) → Beyond n before before
-beyond_start n before = record { size = refl; rest = refl }
+-- a delay's nodes are in both buffers, before and after its rounds
+pub ruleset inside = (rules, nodes_inside, front_length, after_inside, after_front)
 
-pub words_at_lem : (p : List ℕ) (g : List (List ℕ)) (u f : List ℕ) (start actions d : ℕ) → words (view_of p g u f start actions) d ≡ actions ^ (d / 2)
-unfolding words view_of
-words_at_lem p g u f start actions d = refl
-
-module _ (p : List ℕ) (g : List (List ℕ)) (u f : List ℕ) (start actions delay : ℕ) (before old : List ℕ) (d : ℕ)
-    (room : Room (length p) actions delay) (enough : nodes_of (length p) actions delay ≤ length before) (asked : d ≤ delay)
-    (same : Beyond (nodes_of (length p) actions d) before old) where
-  abbrev owed : ℕ
-  owed = nodes_of (length p) actions d
-
-  masks_fit : owed ≤ length old
-  masks_fit = let l = nodes_less room asked in let e = same.size in omega arith
-
-  level_is : {l : Level} → l ≡ level_to (length p) start actions d → l ≡ level_at (length p) start actions d
-  level_is made = made ∙ level_whole (room_less room asked) start
-
-  pub masks_inside : {l : Level} → l ≡ level_to (length p) start actions d → l.nodes ≤ length old
-  masks_inside made = rw (level_is made) masks_fit
-
-  pub masks_front : {l : Level} → l ≡ level_to (length p) start actions d → length (take l.nodes old) ≡ l.nodes
-  masks_front {l} made = length-take-le l.nodes old (masks_inside made)
-
-  module _ (l : Level) (made : l ≡ level_to (length p) start actions d) (ranks left : List ℕ) (n : ℕ)
-      (done : Leveled (arena_of p g u f l) l ranks left n) where
-    left_size : length left ≡ owed
-    left_size = done.size ∙ ap (λ (x : Level). x.nodes) (level_is made)
-
-    pub masks_length : length (left ++ drop l.nodes old) ≡ length before
-    masks_length =
-        let n = left_size in
-        let m = ap (λ (x : Level). x.nodes) (level_is made) in
-        let e = same.size in
-        let i = masks_fit in
-        rw (length-append left (drop l.nodes old), length-drop l.nodes old) (omega arith)
-
-    beyond_at : (k : ℕ) → drop (owed + k) (left ++ drop l.nodes old) ≡ drop (owed + k) before
-    beyond_at k =
-        let z : owed + k ≡ length left + k = let n = left_size in omega arith in
-        ap (λ x. drop x (left ++ drop l.nodes old)) z
-        ∙ drop-append-add left (drop l.nodes old) k
-        ∙ ap (λ x. drop k (drop x old)) (ap (λ (x : Level). x.nodes) (level_is made))
-        ∙ ap (drop k) same.rest
-        ∙ drop-drop k owed before
-
-    pub beyond_next : d ≤ delay → (d ≡ delay → ⊥) → Beyond (nodes_of (length p) actions (d + 1)) before (left ++ drop l.nodes old)
-    beyond_next a e =
-        let b : d + 1 ≤ delay = omega arith in
-        let c : d ≤ d + 1 = omega arith in
-        let m = nodes_less (room_less room b) c in
-        let k = nodes_of (length p) actions (d + 1) - owed in
-        let q : owed + k ≡ nodes_of (length p) actions (d + 1) = omega arith in
-        record { size = masks_length; rest = rw q at (beyond_at k) }
-
-    pub masks_stop : MasksStopped (view_of p g u f start actions) d before (left ++ drop l.nodes old)
-    masks_stop =
-        let q : owed + 0 ≡ (arena (view_of p g u f start actions) d).nodes = (let e = nodes_is p g u f start actions d in omega arith) in
-        let z : owed ≡ (arena (view_of p g u f start actions) d).nodes = sym (nodes_is p g u f start actions d) in
-        record {
-          size = masks_length;
-          beyond =
-              ap (λ (x : ℕ). drop x (left ++ drop l.nodes old)) (sym q) ∙ beyond_at 0 ∙ ap (λ (x : ℕ). drop x before) q;
-          made = λ many.
-              ap (λ (x : ℕ). take x (left ++ drop l.nodes old)) (sym z)
-              ∙ take_at left (drop l.nodes old) owed left_size
-              ∙ done.masks (λ one. many (words_one one))
-              ∙ ap (λ x. masks (arena_of p g u f x)) (level_is made)
-              ∙ ap masks (arena_is p g u f start actions d);
-        }
-      where
-        words_one : l.words ≡ 1 → words (view_of p g u f start actions) d ≡ 1
-        words_one one = words_at_lem p g u f start actions d ∙ sym (ap (λ (x : Level). x.words) (level_is made)) ∙ one
-
-module _ (G : Game) (nodes delay : ℕ) (before : List ℕ) where
-  pub searched_start : Searched G nodes delay 0 before before
-  searched_start = record { asked = omega arith; room = refl; beyond = refl; won = λ j h. absurd (omega arith) }
-
-pub ruleset upward = (
-  rules,
-  searched_start,
-  beyond_start,
-  level_can,
-  masks_inside,
-  masks_front,
-  masks_length,
-  beyond_next,
-  masks_stop,
-  fits_here,
-  front_length,
-  after_length,
-  after_room,
-  after_front,
-  stops_lost,
-  stops_won,
-  searched_next,
-)
+-- what holds at each delay, and where the search stops
+pub ruleset upward = (rules, arena_same, searched_next, beyond_next, stops_lost, stops_won, masks_stop)

@@ -19,51 +19,18 @@ use Rattle.solver.specs.code.Work.{Work, fall_to, leave_to, mark_to, marks_to}
 use Rattle.solver.specs.code.Chains.{chain, head_of}
 use Rattle.solver.specs.code.Spread.{Spotted, caller_at, callers}
 use Rattle.solver.specs.code.Seen.{Clear, Seen}
-use Rattle.solver.proofs.BitLaws.{bit_out, bit_other, some_mask}
-use Rattle.solver.proofs.StateLaws.{mask_of}
-
--- bits only go out, and the queue only grows
-pub record Ran (w w' : Work) : Type 0 where
-  pub out : (k c : ℕ) → bit (mask_of w k) c ≡ false → bit (mask_of w' k) c ≡ false
-  pub tail : w.tail ≤ w'.tail
-  pub size : length w'.queue ≡ length w.queue
-
-ran_none : (w : Work) → Ran w w
-ran_none w = record { out = λ k c e. e; tail = omega arith; size = refl }
-
-ran_on : {u v w : Work} → Ran u v → Ran v w → Ran u w
-ran_on a b =
-    let l = a.tail in
-    let r = b.tail in
-    record { out = λ k c e. b.out k c (a.out k c e); tail = omega arith; size = b.size ∙ a.size }
-
--- a store into node k's mask that lets bits out only
-module _ (masks : List ℕ) (k m : ℕ) (less : (c : ℕ) → bit (get_or masks k 0) c ≡ false → bit m c ≡ false) (h : k < length masks) where
-  store_out : (j c : ℕ) → bit (get_or masks j 0) c ≡ false → bit (get_or (set masks k m) j 0) c ≡ false
-  store_out j c e =
-      ⊎_elim
-      (λ (q : j ≡ k).
-      ap (λ (x : ℕ). bit (get_or (set masks k m) x 0) c) q ∙ ap (λ (x : ℕ). bit x c) (get_or-set_same masks k m 0 h)
-      ∙ less c (ap (λ (x : ℕ). bit (get_or masks x 0) c) (sym q) ∙ e))
-      (λ (d : j ≡ k → ⊥). ap (λ (x : ℕ). bit x c) (get_or-set_other masks k j m 0 d) ∙ e)
-      (same? j k)
+use Rattle.solver.proofs.BitLaws.{bit_out, bit_still, some_mask, there, store_out}
+use Rattle.solver.proofs.StateLaws.{mask_of, Went, went_none, went_on}
 
 -- what one step leaves: the bit is out where the queue still has room
 pub record Marks (c : ℕ) (w w' : Work) (k : ℕ) : Type 0 where
-  pub ran : Ran w w'
+  pub went : Went w w'
   pub gone : w'.tail < length w'.queue → bit (mask_of w' k) c ≡ false
 
 module _ (n c : ℕ) (w : Work) (k : ℕ) where
   module _ (e : bit (mask_of w k) c ≡ true) where
     node : k < length w.masks
-    node =
-        ⊎_elim
-        (λ (h : k < length w.masks). h)
-        (λ (h : length w.masks ≤ k).
-        let z : get_or w.masks k 0 ≡ 0 = get_or-eq_default w.masks 0 h in
-        let s = some_mask (mask_of w k) c e in
-        absurd (omega arith))
-        (below? k (length w.masks))
+    node = there w.masks k (some_mask (mask_of w k) c e)
 
     falls : Marks c w (fall_to n w k) k
     unfolding fall_to
@@ -72,24 +39,18 @@ module _ (n c : ℕ) (w : Work) (k : ℕ) where
         (λ (h : w.tail < length w.queue).
         rw (lt-ltb w.tail (length w.queue) h)
         (record {
-          ran =
+          went =
               record {
-                out = store_out w.masks k 0 (λ d z. zero_bit d) node;
+                out = store_out w.masks k 0 node (λ d z. zero_bit d);
+                queue = λ i l. get_or-set_other w.queue w.tail i k 0 (λ e. omega arith);
                 tail = omega arith;
                 size = length-set w.queue w.tail k;
               };
           gone = λ r. ap (λ (x : ℕ). bit x c) (get_or-set_same w.masks k 0 0 node) ∙ zero_bit c;
         }))
         (λ (h : length w.queue ≤ w.tail).
-        rw (le-ltb w.tail (length w.queue) h) (record { ran = ran_none w; gone = λ r. absurd (omega arith) }))
+        rw (le-ltb w.tail (length w.queue) h) (record { went = went_none w; gone = λ r. absurd (omega arith) }))
         (below? w.tail (length w.queue))
-
-    rest_out : (d : ℕ) → bit (mask_of w k) d ≡ false → bit (mask_of w k - 2 ^ c) d ≡ false
-    rest_out d f =
-        ⊎_elim
-        (λ (q : d ≡ c). absurd (not_both e (ap (λ x. bit (mask_of w k) x) (sym q) ∙ f)))
-        (λ q. bit_other (mask_of w k) c d e q ∙ f)
-        (same? d c)
 
     leaves : Marks c w (leave_to n w k (mask_of w k - 2 ^ c)) k
     unfolding leave_to
@@ -99,17 +60,23 @@ module _ (n c : ℕ) (w : Work) (k : ℕ) where
         (λ (z : mask_of w k - 2 ^ c ≡ 0 → ⊥).
         rw (ne_eqb (mask_of w k - 2 ^ c) 0 z)
         (record {
-          ran = record { out = store_out w.masks k (mask_of w k - 2 ^ c) rest_out node; tail = omega arith; size = refl };
+          went =
+              record {
+                out = store_out w.masks k (mask_of w k - 2 ^ c) node (λ d. bit_still (mask_of w k) c d e);
+                queue = λ i l. refl;
+                tail = omega arith;
+                size = refl;
+              };
           gone = λ r. ap (λ (x : ℕ). bit x c) (get_or-set_same w.masks k (mask_of w k - 2 ^ c) 0 node) ∙ bit_out (mask_of w k) c e;
         }))
         (same? (mask_of w k - 2 ^ c) 0)
 
-  mark_runs : Marks c w (mark_to n c w k) k
+  mark_went : Marks c w (mark_to n c w k) k
   unfolding mark_to
-  mark_runs =
+  mark_went =
       ⊎_elim
       (λ (e : bit (mask_of w k) c ≡ true). rw e (leaves e))
-      (λ (e : bit (mask_of w k) c ≡ false). rw e (record { ran = ran_none w; gone = λ r. e }))
+      (λ (e : bit (mask_of w k) c ≡ false). rw e (record { went = went_none w; gone = λ r. e }))
       (bool (bit (mask_of w k) c))
 
   mark_quiet : bit (mask_of w k) c ≡ false → mark_to n c w k ≡ w
@@ -117,10 +84,10 @@ module _ (n c : ℕ) (w : Work) (k : ℕ) where
   mark_quiet e = rw e
 
 module _ (n c : ℕ) where
-  marks_ran : (ks : List ℕ) (w : Work) → Ran w (marks_to n c w ks)
+  marks_went : (ks : List ℕ) (w : Work) → Went w (marks_to n c w ks)
   unfolding marks_to
-  marks_ran [] w = ran_none w
-  marks_ran (k ∷ ks) w = ran_on (mark_runs n c w k).ran (marks_ran ks (mark_to n c w k))
+  marks_went [] w = went_none w
+  marks_went (k ∷ ks) w = went_on (mark_went n c w k).went (marks_went ks (mark_to n c w k))
 
   module _ (f : ℕ → ℕ) where
     -- nothing happens where the bits are out
@@ -137,8 +104,8 @@ module _ (n c : ℕ) where
     unfolding marks_to
     marks_gone [] w room x m = absurd (Memᴰ.not-nil m)
     marks_gone (y ∷ xs) w room x m =
-        let one = mark_runs n c w (f y) in
-        let more = marks_ran (map f xs) (mark_to n c w (f y)) in
+        let one = mark_went n c w (f y) in
+        let more = marks_went (map f xs) (mark_to n c w (f y)) in
         let t = more.tail in
         let s = more.size in
         let here : bit (mask_of (mark_to n c w (f y)) (f y)) c ≡ false = one.gone (omega arith) in
@@ -148,14 +115,14 @@ module _ (n c : ℕ) where
         (Memᴰ.cases_cons m)
 
 -- notes stay right where bits go out
-module _ (heads cells : List ℕ) (words younger actions : ℕ) where
-  pub seen_kept : (n c : ℕ) (ks : List ℕ) (seen : List Bool) (w : Work) {v : Work} → v ≡ marks_to n c w ks → Seen heads cells words younger actions seen w.masks
+module _ {heads cells : List ℕ} {words younger actions : ℕ} where
+  pub seen_kept : (n c : ℕ) (ks : List ℕ) {seen : List Bool} (w : Work) {v : Work} → v ≡ marks_to n c w ks → Seen heads cells words younger actions seen w.masks
       → Seen heads cells words younger actions seen v.masks
-  seen_kept n c ks seen w e known =
-      rw e (record { out = λ s z x m. (marks_ran n c ks w).out _ _ (known.out s z x m) })
+  seen_kept n c ks w e known =
+      rw e (record { out = λ s z x m. (marks_went n c ks w).out _ _ (known.out s z x m) })
 
-  pub seen_none : (seen : List Bool) (masks : List ℕ) → Clear seen → Seen heads cells words younger actions seen masks
-  seen_none seen masks clear = record { out = λ s z x m. absurd (not_both z (clear.none s)) }
+  pub seen_none : {seen : List Bool} {masks : List ℕ} → Clear seen → Seen heads cells words younger actions seen masks
+  seen_none clear = record { out = λ s z x m. absurd (not_both z (clear.none s)) }
 
 -- one target and the spot's word
 module _ (heads cells : List ℕ) (p : Spot) (small : Spotted p) (t : ℕ) where
@@ -182,16 +149,12 @@ module _ (heads cells : List ℕ) (p : Spot) (small : Spotted p) (t : ℕ) where
     outs_there : (masks : List ℕ) → ((x : ℕ) → Memᴰ x (chain cells (head_of heads t)) → bit (get_or masks (caller_at p x) 0) p.action ≡ false)
         → Outs t p.word masks
     unfolding caller_at
-    outs_there masks o x m =
-        ap (λ y. bit (get_or masks ((x / 8) * p.words + (x % 8) * p.younger + y) 0) (p.word % p.actions)) (sym small.rest_is)
-        ∙ ap (λ y. bit (get_or masks ((x / 8) * p.words + (x % 8) * p.younger + p.rest) 0) y) (sym small.action_is) ∙ o x m
+    outs_there masks o x m = grind (arith, small.rest_is, small.action_is, o x m)
 
     outs_here : (masks : List ℕ) → Outs t p.word masks
         → (x : ℕ) → Memᴰ x (chain cells (head_of heads t)) → bit (get_or masks (caller_at p x) 0) p.action ≡ false
     unfolding caller_at
-    outs_here masks o x m =
-        ap (λ y. bit (get_or masks ((x / 8) * p.words + (x % 8) * p.younger + p.rest) 0) y) small.action_is
-        ∙ ap (λ y. bit (get_or masks ((x / 8) * p.words + (x % 8) * p.younger + y) 0) (p.word % p.actions)) small.rest_is ∙ o x m
+    outs_here masks o x m = grind (arith, small.rest_is, small.action_is, o x m)
 
     outs_place : (masks : List ℕ) → Outs t p.word masks → Outs ((t * p.words + p.word) / p.words) ((t * p.words + p.word) % p.words) masks
     outs_place masks o = rw (target_is, word_is) o
@@ -212,7 +175,7 @@ module _ (heads cells : List ℕ) (p : Spot) (small : Spotted p) (t : ℕ) where
         → v.tail < length v.queue → t * p.words + p.word < length seen → Known (set seen (t * p.words + p.word) true) v.masks
     unfolding callers
     seen_noted seen {v} known e room inside =
-        let kept = seen_kept heads cells p.words p.younger p.actions n p.action _ seen w e known in
+        let kept = seen_kept n p.action _ w e known in
         let gone : (x : ℕ) → Memᴰ x (chain cells (head_of heads t)) → bit (get_or v.masks (caller_at p x) 0) p.action ≡ false =
         rw e (marks_gone n p.action (caller_at p) (chain cells (head_of heads t)) w (rw e at room)) in
         record {

@@ -1,16 +1,9 @@
 -- The loops over chains (src/spread.rt): what is left to mark from here on is what was to be marked. Assumes nothing.
-use Prim.Native.Nat.{ℕ, ◌*◌, ◌≤◌, ◌<◌}
+use Prim.Native.Nat.{ℕ}
 use mathlib.Core.Path.{◌≡◌, sym, ◌∙◌, ap}
 use mathlib.Core.List.{List, [], ◌∷◌, map, foldl, foldl-append}
-use native.Mathlib.Omega.{arith}
-use native.Mathlib.Nat.{mul-le-mul}
-use Rattle.sheet.specs.Limits.{most_nodes}
 use Rattle.solver.specs.code.Work.{Work, mark_to, marks_to}
 use Rattle.solver.specs.code.Spread.{gather}
-
--- products of small numbers
-pub small_product : (a b : ℕ) → a < 256 → b ≤ most_nodes → a * b ≤ 4194304
-small_product a b h l = let r : a * b ≤ 256 * most_nodes = mul-le-mul (let z : a ≤ 256 = omega arith in z) l in omega arith
 
 -- what is left to mark after one place more is what was left before it, and nothing is at the end
 module _ (n c : ℕ) (f : ℕ → ℕ) where

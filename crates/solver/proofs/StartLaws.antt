@@ -2,33 +2,23 @@
 use Prim.Native.Nat.{ℕ, zero, suc, ◌+◌, ◌-◌, ◌/◌, ◌^◌, ◌≤◌, ◌<◌}
 use mathlib.Core.Path.{◌≡◌, refl, sym, ◌∙◌, ap}
 use mathlib.Core.Bool.{Bool, true, false, not, cond}
-use mathlib.Core.Logic.{inl, ⊎_elim}
+use mathlib.Core.Logic.{inl}
 use mathlib.Core.List.{List}
 use native.Mathlib.Omega.{arith}
 use lib.Pow.{pow_pos, pow_mono}
 use lib.ListN.{get_or, get_or-eq_default}
 use Rattle.theory.specs.Fold.{both, count}
-use Rattle.theory.specs.Rounds.{Arena, fell, node_falls, rank_in, ranks_after, mask_below}
+use Rattle.theory.specs.Rounds.{Arena, fell, node_falls, rank_in, ranks_after}
 use Rattle.theory.specs.Delay.{on_right}
 use Rattle.theory.specs.Table.{bit}
 use Rattle.theory.proofs.Fold.{bool, not_both, below?, both_none, both_second}
 use Rattle.theory.proofs.Rounds.{fell_true, fell_false, rank_zero, rank_suc, rank_out}
-use Rattle.theory.proofs.Masks.{mask_bit}
+use Rattle.theory.proofs.Masks.{full_bit}
 use Rattle.sheet.specs.Kinds.{controller_at, safe_at}
 use Rattle.walk.specs.declared.level.Level.{Level}
 use Rattle.solver.specs.code.Work.{Work}
 use Rattle.solver.specs.code.First.{row_falls, row_mask, stand_below, Placed}
 use Rattle.solver.proofs.StateLaws.{rank_of, mask_of, entry_of, standing, Good}
-
--- the mask of all actions
-
-full_mask : (n : ℕ) → mask_below (λ c. true) n ≡ 2 ^ n - 1
-unfolding mask_below
-full_mask zero = refl
-full_mask (suc n) = let e = full_mask n in let p = pow_pos n in omega arith
-
-full_bit : (n c : ℕ) → c < n → bit (2 ^ n - 1) c ≡ true
-full_bit n c h = ap (λ (x : ℕ). bit x c) (sym (full_mask n)) ∙ mask_bit (λ d. true) n c h
 
 -- a node's rank after round 1
 pub first_rank_lem : (E : Arena) (k : ℕ) → k < E.nodes → get_or (ranks_after E 1) k 0 ≡ cond (both (E.right k) (not (E.safe k))) 1 0
@@ -82,73 +72,34 @@ module _ (E : Arena) (p : List ℕ) (l : Level) (w : Work) (some : 0 < E.actions
     safe_mask r s = mask_at_lem k h ∙ rw (both_second (E.right k) (E.safe k) r, s)
 
   rank_same : (k : ℕ) → rank_of w k ≡ get_or (ranks_after E 1) k 0
-  rank_same k =
-      ⊎_elim
-      (λ (h : k < E.nodes). rank_at_lem k h ∙ sym (first_rank_lem E k h))
-      (λ (h : E.nodes ≤ k). rank_past k h ∙ sym (rank_out E 1 k h))
-      (below? k E.nodes)
+  rank_same k = grind (arith, below? k E.nodes, rank_at_lem k, first_rank_lem E k, rank_past k, rank_out E 1 k)
 
   -- a node of the right side that stands is safe
   stands_safe : (k : ℕ) → k < E.nodes → E.right k ≡ true → rank_of w k ≡ 0 → E.safe k ≡ true
-  stands_safe k h r z =
-      ⊎_elim (λ e. e) (λ (e : E.safe k ≡ false). let o = unsafe_rank k h r e in absurd (omega arith)) (bool (E.safe k))
+  stands_safe k h r z = grind (arith, unsafe_rank k h r)
 
   fallen_rank : (k : ℕ) → k < E.nodes → fallen k ≡ true → rank_of w k ≡ 1
   fallen_rank k h f = placed.ranks k (omega arith) ∙ rw f
 
   rank_fallen : (k : ℕ) → k < E.nodes → rank_of w k ≡ 1 → fallen k ≡ true
-  rank_fallen k h e =
-      ⊎_elim
-      (λ t. t)
-      (λ (f : fallen k ≡ false).
-      let z : rank_of w k ≡ 0 = placed.ranks k (omega arith) ∙ rw f in
-      absurd (omega arith))
-      (bool (fallen k))
+  rank_fallen k h e = grind (arith, placed.ranks k)
 
   none_at : (k : ℕ) → 0 < rank_of w k → mask_of w k ≡ 0
-  none_at k a =
-      ⊎_elim
-      (λ (h : k < E.nodes).
-      ⊎_elim
-      (λ (r : E.right k ≡ true).
-      ⊎_elim
-      (λ (s : E.safe k ≡ true). let z = safe_rank k h r s in absurd (omega arith))
-      (λ (s : E.safe k ≡ false). unsafe_mask k h r s)
-      (bool (E.safe k)))
-      (λ (r : E.right k ≡ false). wrong_mask k h r)
-      (bool (E.right k)))
-      (λ (h : E.nodes ≤ k). mask_past k h)
-      (below? k E.nodes)
+  none_at k a = grind (arith, below? k E.nodes, safe_rank k, unsafe_mask k, wrong_mask k, mask_past k)
 
   wrong_at : (k : ℕ) → E.right k ≡ false → mask_of w k ≡ 0
-  wrong_at k r =
-      ⊎_elim (λ (h : k < E.nodes). wrong_mask k h r) (λ (h : E.nodes ≤ k). mask_past k h) (below? k E.nodes)
+  wrong_at k r = grind (arith, below? k E.nodes, wrong_mask k, mask_past k)
 
   small_at : (k : ℕ) → mask_of w k < 2 ^ E.actions
   small_at k =
       let o = pow_pos E.actions in
-      ⊎_elim
-      (λ (h : k < E.nodes).
-      ⊎_elim
-      (λ (b : both (E.right k) (E.safe k) ≡ true). let e : mask_of w k ≡ full = mask_at_lem k h ∙ rw b in omega arith)
-      (λ (b : both (E.right k) (E.safe k) ≡ false). let e : mask_of w k ≡ 0 = mask_at_lem k h ∙ rw b in omega arith)
-      (bool (both (E.right k) (E.safe k))))
-      (λ (h : E.nodes ≤ k). let z = mask_past k h in omega arith)
-      (below? k E.nodes)
+      grind (arith, below? k E.nodes, bool (both (E.right k) (E.safe k)), mask_at_lem k, mask_past k)
 
   stand_count : (n : ℕ) → n ≤ E.nodes → count (λ k. not (fell w.ranks k)) n ≡ stand_below p l n
   unfolding count stand_below
   stand_count zero h = refl
   stand_count (suc n) h =
-      let e = stand_count n (omega arith) in
-      ⊎_elim
-      (λ (f : fallen n ≡ true).
-      let r = fallen_rank n (omega arith) f in
-      rw (e, f, fell_true w.ranks n (omega arith)))
-      (λ (f : fallen n ≡ false).
-      let z : rank_of w n ≡ 0 = placed.ranks n (omega arith) ∙ rw f in
-      rw (e, f, fell_false w.ranks n z))
-      (bool (fallen n))
+      grind (arith, stand_count n, bool (fallen n), fallen_rank n, placed.ranks n, fell_true w.ranks n, fell_false w.ranks n)
 
   room_at : w.tail + standing w.ranks E.nodes ≤ E.nodes
   unfolding standing
@@ -199,8 +150,4 @@ module _ (E : Arena) (p : List ℕ) (l : Level) (w : Work) (some : 0 < E.actions
       }
     where
       never : (k : ℕ) → k < E.nodes → rank_of w k ≡ 1 + 1 → ⊥
-      never k h e =
-          ⊎_elim
-          (λ (f : fallen k ≡ true). let r = fallen_rank k h f in omega arith)
-          (λ (f : fallen k ≡ false). let z : rank_of w k ≡ 0 = placed.ranks k (omega arith) ∙ rw f in omega arith)
-          (bool (fallen k))
+      never k h e = grind (arith, bool (fallen k), fallen_rank k h, placed.ranks k)

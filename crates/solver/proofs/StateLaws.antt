@@ -8,7 +8,7 @@ use mathlib.Core.List.Memᴰ
 use mathlib.Core.List.{List, [], ◌∷◌, Memᴰ}
 use native.Mathlib.Omega.{arith}
 use lib.Pow.{pow_pos}
-use lib.ListN.{length, get_or, set, length-set, get_or-eq_default}
+use lib.ListN.{length, get_or, set, length-set}
 use lib.Seq.{get_or-set_same, get_or-set_other}
 use borrow.Author.Tests.{eq-eqb, ne_eqb, lt-ltb, not-true}
 use Rattle.theory.specs.Fold.{count}
@@ -18,7 +18,7 @@ use Rattle.theory.proofs.Fold.{bool, not_both, below?, same?, stored, count_less
 use Rattle.theory.proofs.Rounds.{fell_true, fell_false, stood_rank}
 use Rattle.theory.proofs.Masks.{zero_bit}
 use Rattle.solver.specs.code.Work.{Work, work, fall_to, leave_to, mark_to, marks_to, spoil_all_to}
-use Rattle.solver.proofs.BitLaws.{bit_out, bit_other, some_mask}
+use Rattle.solver.proofs.BitLaws.{bit_out, bit_other, bit_still, some_mask, there, store_out}
 
 abbrev pub rank_of : Work → ℕ → ℕ
 rank_of w k = get_or w.ranks k 0
@@ -66,9 +66,10 @@ pub record Went (w w' : Work) : Type 0 where
   pub out : (k c : ℕ) → bit (mask_of w k) c ≡ false → bit (mask_of w' k) c ≡ false
   pub queue : (i : ℕ) → i < w.tail → entry_of w' i ≡ entry_of w i
   pub tail : w.tail ≤ w'.tail
+  pub size : length w'.queue ≡ length w.queue
 
 pub went_none : (w : Work) → Went w w
-went_none w = record { out = λ k c e. e; queue = λ i h. refl; tail = omega arith }
+went_none w = record { out = λ k c e. e; queue = λ i h. refl; tail = omega arith; size = refl }
 
 pub went_on : {u v w : Work} → Went u v → Went v w → Went u w
 went_on a b =
@@ -78,6 +79,7 @@ went_on a b =
       out = λ k c e. b.out k c (a.out k c e);
       queue = λ i h. b.queue i (omega arith) ∙ a.queue i h;
       tail = omega arith;
+      size = b.size ∙ a.size;
     }
 
 -- one node less stands
@@ -123,31 +125,20 @@ module _ (E : Arena) (n lo hi : ℕ) where
 
     -- a node with rank 0 had rank 0 after round n
     stood_then : (k : ℕ) → rank_of w k ≡ 0 → get_or (ranks_after E n) k 0 ≡ 0
-    stood_then k z = ⊎_elim (λ e. sym e ∙ z) (λ (f : Fresh E n w k). f.stood) (g.rank k)
+    stood_then k z = grind (arith, g.rank k)
 
     -- a node with a bit is a node of the right side that stands
     mask_node : (k : ℕ) → 0 < mask_of w k → k < E.nodes
-    mask_node k m =
-        ⊎_elim
-        (λ (h : k < E.nodes). h)
-        (λ (h : E.nodes ≤ k).
-        let s = g.masks_size in
-        let z : mask_of w k ≡ 0 = get_or-eq_default w.masks 0 (omega arith) in
-        absurd (omega arith))
-        (below? k E.nodes)
+    mask_node k m = rw g.masks_size at (there w.masks k m)
 
     marked_node : (k c : ℕ) → bit (mask_of w k) c ≡ true → k < E.nodes
     marked_node k c e = mask_node k (some_mask (mask_of w k) c e)
 
     pub marked_right : (k : ℕ) → 0 < mask_of w k → E.right k ≡ true
-    marked_right k m = ⊎_elim (λ e. e) (λ (e : E.right k ≡ false). let z = g.wrong k e in absurd (omega arith)) (bool (E.right k))
+    marked_right k m = grind (arith, g.wrong k)
 
     pub marked_stands : (k : ℕ) → 0 < mask_of w k → rank_of w k ≡ 0
-    marked_stands k m =
-        ⊎_elim
-        (λ (h : rank_of w k < 1). omega arith)
-        (λ (h : 1 ≤ rank_of w k). let z = g.none k (omega arith) in absurd (omega arith))
-        (below? (rank_of w k) 1)
+    marked_stands k m = grind (arith, g.none k)
 
     -- a part of the mask goes out, and some is left
     module _ (k rest : ℕ) (h : k < E.nodes) (m : 0 < mask_of w k) (some : 0 < rest) (few : rest < 2 ^ E.actions)
@@ -170,42 +161,12 @@ module _ (E : Arena) (n lo hi : ℕ) where
                 (λ e. inl e)
                 (λ (f : Fresh E n w j). inr (record { stood = f.stood; right = f.right; rank = f.rank }))
                 (g.rank j);
-            none = λ j r.
-                ⊎_elim
-                (λ (s : (j ≡ k) × (mask_of lower j ≡ rest)).
-                let z = marked_stands k m in
-                let q : rank_of w j ≡ rank_of w k = ap (λ x. rank_of w x) s.0 in
-                absurd (omega arith))
-                (λ (s : (j ≡ k → ⊥) × (mask_of lower j ≡ mask_of w j)). s.1 ∙ g.none j r)
-                (at j);
-            left = λ j l r z.
-                ⊎_elim
-                (λ (s : (j ≡ k) × (mask_of lower j ≡ rest)). let q = s.1 in omega arith)
-                (λ (s : (j ≡ k → ⊥) × (mask_of lower j ≡ mask_of w j)). let q = s.1 in let b = g.left j l r z in omega arith)
-                (at j);
-            wrong = λ j r.
-                ⊎_elim
-                (λ (s : (j ≡ k) × (mask_of lower j ≡ rest)). absurd (not_both (marked_right k m) (sym (ap E.right s.0) ∙ r)))
-                (λ (s : (j ≡ k → ⊥) × (mask_of lower j ≡ mask_of w j)). s.1 ∙ g.wrong j r)
-                (at j);
-            small = λ j.
-                ⊎_elim
-                (λ (s : (j ≡ k) × (mask_of lower j ≡ rest)). rw s.1 few)
-                (λ (s : (j ≡ k → ⊥) × (mask_of lower j ≡ mask_of w j)). rw s.1 (g.small j))
-                (at j);
+            none = λ j r. grind (arith, at j, g.none j, marked_stands k m);
+            left = λ j l r z. grind (arith, at j, g.left j);
+            wrong = λ j r. grind (arith, at j, g.wrong j, marked_right k m);
+            small = λ j. grind (arith, at j, g.small j);
             sound = λ j c l r z a e.
-                ⊎_elim
-                (λ (s : (j ≡ k) × (mask_of lower j ≡ rest)).
-                let f : bit rest c ≡ false = ap (λ (x : ℕ). bit x c) (sym s.1) ∙ e in
-                rw s.0
-                (⊎_elim
-                (λ (t : bit (mask_of w k) c ≡ true). bad c a t f)
-                (λ (t : bit (mask_of w k) c ≡ false).
-                g.sound k c h (marked_right k m) (stood_then k (marked_stands k m)) a t)
-                (bool (bit (mask_of w k) c))))
-                (λ (s : (j ≡ k → ⊥) × (mask_of lower j ≡ mask_of w j)).
-                g.sound j c l r z a (ap (λ (x : ℕ). bit x c) (sym s.1) ∙ e))
-                (at j);
+                grind (arith, at j, bad c a, g.sound k c h (marked_right k m) (stood_then k (marked_stands k m)) a, g.sound j c l r z a);
             old = g.old;
             new = g.new;
             order = g.order;
@@ -218,14 +179,10 @@ module _ (E : Arena) (n lo hi : ℕ) where
             good = lower_good;
             went =
                 record {
-                  out = λ j c e.
-                      ⊎_elim
-                      (λ (s : (j ≡ k) × (mask_of lower j ≡ rest)).
-                      ap (λ (x : ℕ). bit x c) s.1 ∙ less c (sym (ap (λ (x : ℕ). bit (mask_of w x) c) s.0) ∙ e))
-                      (λ (s : (j ≡ k → ⊥) × (mask_of lower j ≡ mask_of w j)). ap (λ (x : ℕ). bit x c) s.1 ∙ e)
-                      (at j);
+                  out = store_out w.masks k rest (there w.masks k m) less;
                   queue = λ i l. refl;
                   tail = omega arith;
+                  size = refl;
                 };
           }
 
@@ -258,24 +215,9 @@ module _ (E : Arena) (n lo hi : ℕ) where
       new_fallen : Segment E.nodes fallen.ranks fallen.queue (n + 1) hi (w.tail + 1)
       new_fallen =
           record {
-            node = λ i l r.
-                ⊎_elim
-                (λ (s : i < w.tail). rw (entry_at i s) (g.new.node i l s))
-                (λ (s : w.tail ≤ i). let q : i ≡ w.tail = omega arith in rw (q, entry_here) h)
-                (below? i w.tail);
+            node = λ i l r. grind (arith, below? i w.tail, entry_at i, entry_here, g.new.node i);
             ranked = λ i l r.
-                ⊎_elim
-                (λ (s : i < w.tail).
-                rw (entry_at i s)
-                (⊎_elim
-                (λ (t : (entry_of w i ≡ k) × (rank_of fallen (entry_of w i) ≡ n + 1)). t.1)
-                (λ (t : (entry_of w i ≡ k → ⊥) × (rank_of fallen (entry_of w i) ≡ rank_of w (entry_of w i))). t.1 ∙ g.new.ranked i l s)
-                (rank_at_lem (entry_of w i))))
-                (λ (s : w.tail ≤ i).
-                let q : i ≡ w.tail = omega arith in
-                rw (q, entry_here)
-                (get_or-set_same w.ranks k (n + 1) 0 (let z = g.ranks_size in omega arith)))
-                (below? i w.tail);
+                grind (arith, below? i w.tail, entry_at i, entry_here, rank_at_lem (entry_of w i), rank_at_lem k, g.new.ranked i);
             every = λ j l r.
                 ⊎_elim
                 (λ (t : (j ≡ k) × (rank_of fallen j ≡ n + 1)).
@@ -319,37 +261,11 @@ module _ (E : Arena) (n lo hi : ℕ) where
                 (λ (f : Fresh E n w j). inr (record { stood = f.stood; right = f.right; rank = t.1 ∙ f.rank }))
                 (g.rank j))
                 (rank_at_lem j);
-            none = λ j r.
-                ⊎_elim
-                (λ (s : (j ≡ k) × (mask_of fallen j ≡ 0)). s.1)
-                (λ (s : (j ≡ k → ⊥) × (mask_of fallen j ≡ mask_of w j)).
-                let q = get_or-set_other w.ranks k j (n + 1) 0 s.0 in
-                s.1 ∙ g.none j (omega arith))
-                (mask_at_lem j);
-            left = λ j l r z.
-                ⊎_elim
-                (λ (t : (j ≡ k) × (rank_of fallen j ≡ n + 1)). let q = t.1 in absurd (omega arith))
-                (λ (t : (j ≡ k → ⊥) × (rank_of fallen j ≡ rank_of w j)).
-                let q = get_or-set_other w.masks k j 0 0 t.0 in
-                let b = g.left j l r (sym t.1 ∙ z) in
-                omega arith)
-                (rank_at_lem j);
-            wrong = λ j r.
-                ⊎_elim
-                (λ (s : (j ≡ k) × (mask_of fallen j ≡ 0)). s.1)
-                (λ (s : (j ≡ k → ⊥) × (mask_of fallen j ≡ mask_of w j)). s.1 ∙ g.wrong j r)
-                (mask_at_lem j);
-            small = λ j.
-                ⊎_elim
-                (λ (s : (j ≡ k) × (mask_of fallen j ≡ 0)). rw s.1 (pow_pos E.actions))
-                (λ (s : (j ≡ k → ⊥) × (mask_of fallen j ≡ mask_of w j)). rw s.1 (g.small j))
-                (mask_at_lem j);
-            sound = λ j c l r z a e.
-                ⊎_elim
-                (λ (s : (j ≡ k) × (mask_of fallen j ≡ 0)). rw s.0 (bad c a))
-                (λ (s : (j ≡ k → ⊥) × (mask_of fallen j ≡ mask_of w j)).
-                g.sound j c l r z a (ap (λ (x : ℕ). bit x c) (sym s.1) ∙ e))
-                (mask_at_lem j);
+            none = λ j r. grind (arith, mask_at_lem j, rank_at_lem j, g.none j);
+            left = λ j l r z. grind (arith, mask_at_lem j, rank_at_lem j, g.left j);
+            wrong = λ j r. grind (arith, mask_at_lem j, g.wrong j);
+            small = λ j. grind (arith, mask_at_lem j, g.small j, pow_pos E.actions);
+            sound = λ j c l r z a e. grind (arith, mask_at_lem j, bad c a, g.sound j c l r z a);
             old = old_fallen;
             new = new_fallen;
             order = let o = g.order in omega arith;
@@ -362,13 +278,10 @@ module _ (E : Arena) (n lo hi : ℕ) where
             good = fallen_good;
             went =
                 record {
-                  out = λ j c e.
-                      ⊎_elim
-                      (λ (s : (j ≡ k) × (mask_of fallen j ≡ 0)). ap (λ (x : ℕ). bit x c) s.1 ∙ zero_bit c)
-                      (λ (s : (j ≡ k → ⊥) × (mask_of fallen j ≡ mask_of w j)). ap (λ (x : ℕ). bit x c) s.1 ∙ e)
-                      (mask_at_lem j);
+                  out = store_out w.masks k 0 (there w.masks k m) (λ c z. zero_bit c);
                   queue = λ i l. entry_at i l;
                   tail = omega arith;
+                  size = length-set {A = ℕ} w.queue w.tail k;
                 };
           }
 
@@ -400,19 +313,7 @@ module _ (E : Arena) (n lo hi : ℕ) where
         -- an action whose bit is not in what is left
         spoilt_rest : (d : ℕ) → d < E.actions → bit rest d ≡ false → Spoilt k d
         spoilt_rest d l f =
-            ⊎_elim
-            (λ (q : d ≡ c). rw q here)
-            (λ q.
-            g.sound k d node (marked_right k some) (stood_then k (marked_stands k some)) l
-            (sym (bit_other (mask_of w k) c d e q) ∙ f))
-            (same? d c)
-
-        kept_out : (d : ℕ) → bit (mask_of w k) d ≡ false → bit rest d ≡ false
-        kept_out d f =
-            ⊎_elim
-            (λ (q : d ≡ c). absurd (not_both e (ap (λ x. bit (mask_of w k) x) (sym q) ∙ f)))
-            (λ q. bit_other (mask_of w k) c d e q ∙ f)
-            (same? d c)
+            grind (arith, same? d c, here, g.sound k d node (marked_right k some) (stood_then k (marked_stands k some)) l, bit_other (mask_of w k) c d e)
 
         leaves : Goes w (leave_to n w k rest) × (bit (mask_of (leave_to n w k rest) k) c ≡ false)
         unfolding leave_to
@@ -429,7 +330,7 @@ module _ (E : Arena) (n lo hi : ℕ) where
             let f = g.small k in
             let l = node in
             rw (ne_eqb rest 0 (λ q. omega arith)) (
-              lower_goes k rest node some z (omega arith) kept_out (λ d l t f. spoilt_rest d l f),
+              lower_goes k rest node some z (omega arith) (λ d. bit_still (mask_of w k) c d e) (λ d l t f. spoilt_rest d l f),
               ap (λ (x : ℕ). bit x c) (get_or-set_same w.masks k rest 0 (omega arith)) ∙ bit_out (mask_of w k) c e,
             ))
             (below? rest 1)

@@ -18,14 +18,15 @@ use Rattle.solver.specs.code.Working.{Workable, Worked}
 use Rattle.solver.proofs.StateLaws.{Good}
 use Rattle.solver.proofs.ReadyLaws.{Ready, Finished, ready_next, ready_done}
 use Rattle.solver.proofs.StartLaws.{start_good}
-use Rattle.solver.proofs.BlockLaws.{blocks_good, blocks_marked}
+use Rattle.solver.proofs.BlockLaws.{blocks_done}
+use borrow.Author.Rules.{rules}
 
 -- the state before a sweep, in code
 pub record Rounding (E : Arena) (n lo hi : ℕ) (w : Work) : Type 0 where
   pub ready : Ready E n lo hi w
   pub few : n ≤ hi + 1
 
-module _ (p : List ℕ) (g : List (List ℕ)) (u f : List ℕ) (x : Index) (l : Level) (younger : ℕ)
+module _ {p : List ℕ} {g : List (List ℕ)} {u f : List ℕ} {x : Index} {l : Level} {younger : ℕ}
     (can : Workable p g u f x l younger) where
   abbrev E : Arena
   E = arena_of p g u f l
@@ -35,7 +36,7 @@ module _ (p : List ℕ) (g : List (List ℕ)) (u f : List ℕ) (x : Index) (l : 
   nodes_is = can.sized.all_nodes
 
   -- the start
-  module _ (w : Work) {full : ℕ} (is : full ≡ 2 ^ l.actions - 1) (placed : Placed p l full l.nodes w) where
+  module _ {w : Work} {full : ℕ} (is : full ≡ 2 ^ l.actions - 1) (placed : Placed p l full l.nodes w) where
     start_placed : Good E 1 0 w.tail w
     unfolding arena_of view_of
     start_placed =
@@ -44,27 +45,24 @@ module _ (p : List ℕ) (g : List (List ℕ)) (u f : List ℕ) (x : Index) (l : 
     pub start_rounds : {v : Work} → v ≡ blocks_to E younger w 0 (length p * l.actions) → Rounding E 1 0 w.tail v
     unfolding arena_of view_of
     start_rounds e =
-        let good =
-        blocks_good (view_of p g u f l.start l.actions) l.odd l.words younger can.fits.some_action can.fits.some_younger can.fits.whole
-        w.tail w start_placed in
-        let marked =
-        blocks_marked (view_of p g u f l.start l.actions) l.odd l.words younger can.fits.some_action can.fits.some_younger can.fits.whole
+        let done =
+        blocks_done (view_of p g u f l.start l.actions) l.odd l.words younger can.fits.some_action can.fits.some_younger can.fits.whole
         w.tail w start_placed in
         record {
           ready =
               rw e
               (record {
                 some = omega arith;
-                good = good;
+                good = done.0;
                 order = omega arith;
-                blocked = marked;
+                blocked = done.1;
                 earlier = λ j a b. let z = fell_rank (ranks_after E 1) j a in absurd (omega arith);
               });
           few = omega arith;
         }
 
   -- before a sweep
-  module _ (n lo hi : ℕ) (w : Work) (r : Rounding E n lo hi w) where
+  module _ {n lo hi : ℕ} {w : Work} (r : Rounding E n lo hi w) where
     pub round_inside : hi ≤ l.nodes
     round_inside =
         let a = r.ready.good.order in
@@ -86,10 +84,7 @@ module _ (p : List ℕ) (g : List (List ℕ)) (u f : List ℕ) (x : Index) (l : 
           can.reverses n lo hi w r.ready e
 
       pub round_more : (v.tail ≡ hi → ⊥) → hi < v.tail
-      round_more z = let o = next_ready.order in less z o
-        where
-          less : (v.tail ≡ hi → ⊥) → hi ≤ v.tail → hi < v.tail
-          less z o = omega arith
+      round_more z = let o = next_ready.order in omega (arith, z)
 
       pub round_next : (v.tail ≡ hi → ⊥) → Rounding E (n + 1) hi v.tail v
       round_next z = let m = round_more z in let b = r.few in record { ready = next_ready; few = omega arith }
@@ -109,3 +104,5 @@ module _ (p : List ℕ) (g : List (List ℕ)) (u f : List ℕ) (x : Index) (l : 
 
       pub round_over : v.tail ≡ hi → Worked E v.ranks v.masks n
       round_over z = let d = done_here z in record { ranks = d.ranks; masks = d.masks; most = d.most }
+
+pub ruleset rounding = (rules, start_rounds, round_queue, round_few, round_more, round_next, round_over, next_inside)

@@ -1,9 +1,10 @@
 // The chains of places 0, 1, .. by their keys: a chain leads from the last place that has its key to the one before. A link is a
-// place + 1, and 0 is the end: an Option would take twice the stack.
+// place + 1, and 0 is the end: an Option of a u16 would take twice the stack, and one of a NonZero be a place + 1 all the same. N is below 65,535, so that a link is cast without a loss. All
+// chains share one array of links: memory is fixed, and a slice or a map for each key would need room for every place.
 ghost use Rattle.std.specs.Prelude.{◌≡◌, ℕ, ◌+◌, ◌<◌, ◌≤◌, IfSome, length, get_or, set};
 ghost use Rattle.std.specs.Iterator.{YieldsFirst, at_most};
 ghost use Rattle.solver.specs.code.Sizes.{largest16};
-ghost use Rattle.solver.specs.code.Chains.{Linked, chain, head_of};
+ghost use Rattle.solver.specs.code.Chains.{Linked, Unlinked, chain, head_of};
 
 use sheet::limits::INDEX;
 
@@ -22,7 +23,7 @@ impl<const N: usize> Chain<N> {
     // No place yet.
     pub(crate) fn new() -> Chain<N>
         requires { N < largest16 }
-        ensures { (f : ℕ → ℕ) → Linked f 0 result.heads result.links }
+        ensures { Unlinked result.heads result.links }
     {
         let heads = [0; INDEX];
         let links = [0; N];
@@ -31,7 +32,7 @@ impl<const N: usize> Chain<N> {
 
     // Places 0 to n - 1, by their keys, where there is no place yet.
     pub(crate) fn link<K: Fn(usize) -> usize>(&mut self, n: usize, key: K)
-        requires empty { (f : ℕ → ℕ) → Linked f 0 self.old.heads self.old.links }
+        requires empty { Unlinked self.old.heads self.old.links }
         requires room { n ≤ N }
         requires callable { (i : _) → i < n → K.pre key i }
         ensures { (f : ℕ → ℕ) → ((i r : ℕ) → i < n → K.post key i r → r ≡ f i) → Linked f n self.new.heads self.new.links }
@@ -86,6 +87,7 @@ impl<const N: usize> Iterator for Places<'_, N> {
 
     ghost remaining = { λ s. at_most s.at };
 
+    #[tactic(auto, using(crate::proofs::ChainLaws::chain_done, crate::proofs::ChainLaws::chain_step))]
     fn next(&mut self) -> Option<usize> {
         let i = self.at.checked_sub(1)?;
         self.at = usize::from(self.links[i]);

@@ -3,23 +3,24 @@ ghost use Rattle.std.specs.Prelude.{◌≡◌, ◌+◌, ◌*◌, ◌<◌, length
 ghost use Rattle.solver.specs.code.First.{row_falls, row_mask};
 
 use crate::mark::Worklist;
-use sheet::kinds::{on_right, safe_at};
+use sheet::kinds::safe_at;
+use walk::arena::Arena;
 use walk::sized::SizedArena;
 
-// Do the nodes of position q fall in round 1?
+// Do the nodes of position q fall in round 1? With row_mask one line each, no plainer as one.
 #[tactic(auto, unfolding(crate::specs::code::First::row_falls, theory::specs::Fold::both))]
-fn row_falls(p: &[u8], odd: bool, q: usize) -> bool
-    ensures { result ≡ row_falls odd p.now q }
+fn row_falls(arena: &Arena, q: usize) -> bool
+    ensures { result ≡ row_falls arena.now.level.odd arena.now.positions.now q }
 {
-    on_right(p, odd, q) && !safe_at(p, q)
+    arena.on_right(q) && !safe_at(arena.positions, q)
 }
 
-// The mask of the nodes of position q; full is that of all actions.
+// The mask of the nodes of position q; full is that of all actions, which is worked out once.
 #[tactic(auto, unfolding(crate::specs::code::First::row_mask, theory::specs::Fold::both))]
-fn row_mask(p: &[u8], odd: bool, full: u8, q: usize) -> u8
-    ensures { result ≡ row_mask odd p.now full q }
+fn row_mask(arena: &Arena, full: u8, q: usize) -> u8
+    ensures { result ≡ row_mask arena.now.level.odd arena.now.positions.now full q }
 {
-    if on_right(p, odd, q) && safe_at(p, q) {
+    if arena.on_right(q) && safe_at(arena.positions, q) {
         full
     } else {
         0
@@ -30,16 +31,18 @@ impl Worklist<'_> {
     ghost use Rattle.solver.specs.code.Views.{Same, PlacedTo};
 
     // The nodes of position q.
+    #[tactic(auto, using(crate::proofs::FirstLaws::placing))]
     fn first_row(&mut self, sized: &SizedArena, full: u8, q: usize)
         requires { (q < length sized.now.arena.now.positions.now) × (PlacedTo sized.now.arena.now full (q * sized.now.arena.now.level.words) self.old) }
         ensures { (Same self.old self.new) × (PlacedTo sized.now.arena.now full (q * sized.now.arena.now.level.words + sized.now.arena.now.level.words) self.new) }
     {
-        let p = sized.arena.positions;
-        let level = sized.arena.level;
-        let falls = row_falls(p, level.odd, q);
-        let mask = row_mask(p, level.odd, full, q);
-        let start = q * level.words;
-        for k in start..start + level.words {
+        let arena = sized.arena;
+        let falls = row_falls(arena, q);
+        let mask = row_mask(arena, full, q);
+        let words = arena.level.words;
+        let start = q * words;
+        // by index, in one pass: a node is an entry of both buffers, and may go into the queue; with fill there would be three
+        for k in start..start + words {
             self.masks[k] = mask;
             if falls {
                 self.ranks[k] = 1;
@@ -52,6 +55,7 @@ impl Worklist<'_> {
     }
 
     // All nodes.
+    #[tactic(auto, using(crate::proofs::FirstLaws::all_placing))]
     pub(crate) fn first(&mut self, sized: &SizedArena, full: u8)
         requires { (length self.old.masks.now ≡ sized.now.arena.now.level.nodes) × (self.old.tail ≡ 0) }
         ensures { (Same self.old self.new) × (PlacedTo sized.now.arena.now full sized.now.arena.now.level.nodes self.new) }

@@ -14,6 +14,7 @@ use walk::arena::{Arena, Fallen};
 use walk::sized::SizedArena;
 
 // The ranks, and the number of rounds; where words are pending, the masks too.
+#[tactic(auto, using(crate::proofs::LevelLaws::level_worked))]
 pub(crate) fn solve_level(arena: &Arena, index: &Index, ranks: &mut [u16], masks: &mut [u8]) -> u16
     requires { (CanLevel arena.now index.now) × (length ranks.old ≡ arena.now.level.nodes) × (length masks.old ≡ arena.now.level.nodes) }
     ensures { Leveled (arena_in arena.now) arena.now.level ranks.new masks.new result }

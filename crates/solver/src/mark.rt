@@ -6,7 +6,9 @@ ghost use Rattle.solver.specs.code.Work.{Lent};
 
 use sheet::form::byte;
 
-// The two buffers, and the nodes that have fallen, in the order of their ranks: so many as tail says.
+// The two buffers, and the nodes that have fallen, in the order of their ranks: so many as tail says. Rank 0 and mask 0 are none, as
+// the C areas have it. There are at most MOST_NODES nodes, so that an entry of the queue is cast without a loss. The queue is lent as a
+// slice, since its room is the level's number of nodes, which fall tests: a type with a fixed size would test another bound.
 #[derive(Drop)]
 pub(crate) struct Worklist<'a> {
     pub(crate) ranks: &'a mut [u16],
@@ -16,6 +18,7 @@ pub(crate) struct Worklist<'a> {
     ghost lent: { Lent ranks.now masks.now queue.now },
 }
 
+// n is the round before, below the largest u16: one bound, asked for where n + 1 is written and on the way there.
 impl Worklist<'_> {
     ghost use Rattle.solver.specs.code.Work.{fall_to, mark_to, spoil_all_to};
     ghost use Rattle.solver.specs.code.Views.{listed, Turned};

@@ -3,22 +3,19 @@ ghost use Rattle.std.specs.Prelude.{◌≡◌};
 ghost use Rattle.sheet.specs.Refusals.{answer_by};
 ghost use Rattle.solver.specs.Solving.{solved_by, solving, masks_solved, ranks_solved};
 ghost use Rattle.solver.specs.code.Search.{Filled};
-ghost use Rattle.solver.specs.code.Views.{game_in, CanFill};
+ghost use Rattle.solver.specs.code.Views.{view_in, CanFill};
 
 use crate::chain::Chain;
 use crate::delays::{Stop, search};
 use crate::index::{Index, link_both};
 use crate::levels::mask_level;
-use reader::arrays::grid_at;
 use reader::reading::{Layout, read};
-use sheet::form::part;
-use sheet::moves::first_lines;
+use region::arrays::GameArrays;
 use sheet::refusal::Refusal;
-use walk::arena::{Arena, Fallen};
-use walk::level::level_at;
+use walk::arena::Fallen;
 use walk::sized::SizedArena;
 
-// Losing: the least delay at which no strategy wins.
+// Losing: the least delay at which no strategy wins. The cases have document 01's names.
 #[derive(Clone, Copy, Debug, PartialEq, Eq)]
 pub enum Solution {
     Winning(Layout),
@@ -26,28 +23,22 @@ pub enum Solution {
 }
 
 // Both buffers filled, from the arrays of an accepted sheet. The chains are made once, for all delays.
-fn fill(arena: &Arena, l: Layout, masks: &mut [u8], ranks: &mut [u16]) -> Stop
-    requires { CanFill arena.now l masks.old ranks.old }
-    ensures { Filled (game_in arena.now l) l.delay masks.old ranks.old masks.new ranks.new result }
+#[tactic(auto, using(crate::proofs::SolveLaws::inside))]
+fn fill(game: &GameArrays, masks: &mut [u8], ranks: &mut [u16]) -> Stop
+    requires { CanFill game.now masks.old ranks.old }
+    ensures { Filled (view_in game.now) game.now.layout.delay masks.old ranks.old masks.new ranks.new result }
 {
     let mut reaching = Chain::new();
     let mut leading = Chain::new();
-    link_both(
-        arena.moves,
-        arena.grid,
-        l.delay,
-        &mut reaching,
-        &mut leading,
-    );
+    link_both(game, &mut reaching, &mut leading);
     let index = Index {
-        moves: arena.moves,
+        moves: game.moves,
         reaching: &reaching,
         leading: &leading,
     };
-    let stop = search(arena, &index, l, ranks, masks);
-    let level = level_at(arena.positions.len(), l.start, l.actions, stop.delay);
-    let nodes = level.nodes;
-    let here = Arena { level, ..*arena };
+    let stop = search(game, &index, ranks, masks);
+    let here = game.arena(stop.delay);
+    let nodes = here.level.nodes;
     let fallen = Fallen {
         marks: &ranks[..nodes],
         last: stop.rounds,
@@ -56,7 +47,9 @@ fn fill(arena: &Arena, l: Layout, masks: &mut [u8], ranks: &mut [u16]) -> Stop
     stop
 }
 
-// Document 01 has the reading taken apart with let else, and its refusal handed straight on.
+// Document 01 has the reading taken apart with let else, and its refusal handed straight on. The two areas are the C caller's, and
+// stay two slices.
+#[tactic(auto, using(crate::proofs::SolveLaws::handing_on))]
 pub fn solve(sheet: &[u8], masks: &mut [u8], ranks: &mut [u16]) -> Result<Solution, Refusal>
     ensures answer { answer_by solved_by result ≡ solving sheet.now masks.old ranks.old }
     ensures masks { masks.new ≡ masks_solved sheet.now masks.old ranks.old }
@@ -66,23 +59,12 @@ pub fn solve(sheet: &[u8], masks: &mut [u8], ranks: &mut [u16]) -> Result<Soluti
     let Ok(l) = reading else {
         return Err(reading.unwrap_err());
     };
-    let positions = part(sheet, l.positions);
-    let level = level_at(positions.len(), l.start, l.actions, l.delay);
+    let game = GameArrays::of(sheet, l);
     let room = masks.len().min(ranks.len());
-    if room < level.nodes {
+    if room < game.arena(l.delay).level.nodes {
         return Err(Refusal::Buffers);
     }
-    let grid = grid_at(sheet, l);
-    let moves = part(sheet, l.moves);
-    let firsts = first_lines(moves);
-    let arena = Arena {
-        positions,
-        grid: &grid,
-        moves,
-        firsts: &firsts,
-        level,
-    };
-    let stop = fill(&arena, l, masks, ranks);
+    let stop = fill(&game, masks, ranks);
     if stop.wins {
         return Ok(Solution::Winning(l));
     }

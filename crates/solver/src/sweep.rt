@@ -6,6 +6,7 @@ ghost use Rattle.solver.specs.code.Sweep.{Fitted, spot_at, spread_to, sweep_to};
 use crate::index::Index;
 use crate::mark::Worklist;
 use crate::spread::Spot;
+use std::ops::Range;
 use walk::level::Level;
 
 // The nodes of rank n are swept, at a level with so many younger words.
@@ -21,28 +22,26 @@ pub(crate) struct Round {
 impl Round {
     ghost use Rattle.solver.specs.code.Views.{indexed, listed, spotted, Noted, Turned};
 
-    // The action and the younger actions of node j's word.
+    // The action and the younger actions of node j's word. There are at most 8 actions, so that one is cast without a loss.
     fn spot(self, j: usize) -> Spot
         ensures { spotted result ≡ spot_at self.level self.younger self.n j }
     {
         let level = self.level;
-        let v = j % level.words;
+        let word = j % level.words;
         Spot {
-            n: self.n,
-            words: level.words,
-            younger: self.younger,
-            actions: level.actions,
-            word: v,
-            rest: v / level.actions,
-            action: (v % level.actions) as u8,
+            round: self,
+            word,
+            rest: word / level.actions,
+            action: (word % level.actions) as u8,
         }
     }
 
     // Node j, which fell in round n.
+    #[tactic(auto, using(crate::proofs::SweepLaws::spread_odd_is, crate::proofs::SweepLaws::spread_even_is))]
     fn spread(self, index: &Index, j: usize, seen: &mut [bool], work: &mut Worklist)
-        requires { Noted index.now self.level.words self.younger self.level.actions seen.old work.old }
+        requires { Noted index.now self.level self.younger seen.old work.old }
         ensures calls { Turned work.old (spread_to (indexed index.now) self.level self.younger self.n (listed work.old) j) work.new }
-        ensures notes { Noted index.now self.level.words self.younger self.level.actions seen.new work.new }
+        ensures notes { Noted index.now self.level self.younger seen.new work.new }
     {
         let spot = self.spot(j);
         let q = j / self.level.words;
@@ -53,21 +52,21 @@ impl Round {
         }
     }
 
-    // The nodes of rank n, which are the queue's entries from lo up to hi.
+    // The nodes of rank n, which are these entries of the queue.
     pub(crate) fn sweep(
         self,
         index: &Index,
-        lo: usize,
-        hi: usize,
+        entries: Range<usize>,
         seen: &mut [bool],
         work: &mut Worklist,
     )
-        requires { (hi ≤ length work.old.queue.now) × (Noted index.now self.level.words self.younger self.level.actions seen.old work.old) }
-        ensures calls { Turned work.old (sweep_to (indexed index.now) self.level self.younger self.n (listed work.old) lo (hi - lo))
+        requires { (entries.end ≤ length work.old.queue.now) × (Noted index.now self.level self.younger seen.old work.old) }
+        ensures calls { Turned work.old (sweep_to (indexed index.now) self.level self.younger self.n (listed work.old) entries.start (entries.end - entries.start))
             work.new }
-        ensures notes { Noted index.now self.level.words self.younger self.level.actions seen.new work.new }
+        ensures notes { Noted index.now self.level self.younger seen.new work.new }
     {
-        for at in lo..hi {
+        // by index: the queue grows while it is read
+        for at in entries {
             let j = usize::from(work.queue[at]);
             self.spread(index, j, seen, work);
         }

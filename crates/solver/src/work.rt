@@ -1,10 +1,11 @@
 // All rounds at one delay with pending words, and the masks.
-ghost use Rattle.std.specs.Prelude.{◌≡◌, ◌-◌, ◌/◌, ◌^◌, ◌≤◌, length};
+ghost use Rattle.std.specs.Prelude.{◌≡◌, ◌/◌, length};
 ghost use Rattle.walk.specs.code.Arenas.{arena_in};
 ghost use Rattle.solver.specs.code.Seen.{Clear};
 ghost use Rattle.solver.specs.code.Working.{Worked};
 ghost use Rattle.solver.specs.code.Views.{CanWork, Same};
 
+use crate::block::Rows;
 use crate::index::Index;
 use crate::mark::Worklist;
 use crate::sweep::Round;
@@ -12,16 +13,9 @@ use sheet::limits::MOST_NODES;
 use walk::arena::Arena;
 use walk::sized::SizedArena;
 
-// The mask of so many actions.
-fn full_mask(actions: usize) -> u8
-    requires { actions ≤ 8 }
-    ensures { result ≡ 2 ^ actions - 1 }
-{
-    let one: usize = 1;
-    ((one << actions) - 1) as u8
-}
-
 // The rounds, each from the nodes that fell in the one before, and their number: the last one in which a node fell, or round 1.
+// seen is no field of the worklist: rounds 1 and 2 and odd delays note nothing.
+#[tactic(auto, using(crate::proofs::WorkLaws::rounding))]
 fn all_rounds(
     arena: &Arena,
     index: &Index,
@@ -35,14 +29,19 @@ fn all_rounds(
 {
     let level = arena.level;
     let sized = SizedArena { arena };
-    work.first(&sized, full_mask(level.actions));
+    work.first(&sized, sized.full_mask());
     let mut lo: usize = 0;
     let mut hi = work.tail;
-    work.block(&sized, younger);
+    let rows = Rows {
+        sized: &sized,
+        younger,
+    };
+    rows.block(work);
     let mut n: u16 = 1;
-    let last = 'rounds: loop {
+    // Document 01: the loop yields its answer by break.
+    'rounds: loop {
         let round = Round { level, younger, n };
-        round.sweep(index, lo, hi, seen, work);
+        round.sweep(index, lo..hi, seen, work);
         let end = work.tail;
         if end == hi {
             break 'rounds n;
@@ -50,11 +49,11 @@ fn all_rounds(
         lo = hi;
         hi = end;
         n += 1;
-    };
-    last
+    }
 }
 
-// The same with a queue of its own, and a note for each target and word.
+// All rounds over buffers of their own: the queue, and a note for each target and word. Two functions, as a loop and the buffers that it
+// goes over in one would be no plainer.
 pub(crate) fn work(arena: &Arena, index: &Index, ranks: &mut [u16], masks: &mut [u8]) -> u16
     requires { (CanWork arena.now index.now (arena.now.level.words / arena.now.level.actions)) × (length ranks.old ≡ arena.now.level.nodes)
         × (length masks.old ≡ arena.now.level.nodes) }

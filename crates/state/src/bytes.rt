@@ -13,7 +13,7 @@ const ACTIONS: usize = 4;
 
 const WINDOW: usize = 7;
 
-// The turn, from its four bytes.
+// The turn, from its four bytes. Callers cast it, as the library has no `usize::from` of a u32.
 #[tactic(auto, unfolding(crate::specs::StateBytes::turn_from))]
 fn turn_in(b: &[u8; STATE_BYTES]) -> u32
     ensures { result ≡ turn_from (get_or b.now 0 0) (get_or b.now 1 0) (get_or b.now 2 0) (get_or b.now 3 0) }
@@ -21,6 +21,7 @@ fn turn_in(b: &[u8; STATE_BYTES]) -> u32
     u32::from_le_bytes([b[0], b[1], b[2], b[3]])
 }
 
+// Slot k, by the index of its two bytes: the 21 bytes are no array of pairs, so that a pair for a `From<[u8; 2]>` would have to be made first.
 #[tactic(auto, unfolding(crate::specs::StateBytes::slot_in, crate::specs::StateBytes::slot_from))]
 fn slot_in(b: &[u8; STATE_BYTES], k: usize) -> Slot
     requires { k < slots }
@@ -73,6 +74,7 @@ pub fn slot_at(b: &[u8; STATE_BYTES], k: usize) -> Slot
 }
 
 // Byte i of a state: the turn's, the held actions, then for each slot whether it is known and its position.
+#[tactic(auto, using(crate::proofs::ByteLaws::bytes))]
 fn byte_of(s: State, i: usize) -> u8
     requires { i < state_bytes }
     ensures { result ≡ get_or (encode_state s) i 0 }

@@ -14,7 +14,7 @@ pub const SLOTS: usize = 7;
 
 // An observation: is the position of this index known, and which one it is. It isn't an Option, as C callers keep it in two bytes: acting
 // hands both on, and so the position byte of a slot that is not known.
-#[derive(Clone, Copy)]
+#[derive(Clone, Copy, Debug, PartialEq, Eq)]
 pub struct Slot {
     pub known: bool,
     pub position: u8,
@@ -49,7 +49,7 @@ impl Slot {
 }
 
 // last[k] is the action of turn - 1 - k, window[k] the position at index 2 * turn - k; what is not held is 0.
-#[derive(Clone, Copy)]
+#[derive(Clone, Copy, Debug, PartialEq, Eq)]
 pub struct State {
     pub turn: usize,
     pub last: [u8; HELD],

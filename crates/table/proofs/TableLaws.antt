@@ -33,6 +33,7 @@ use Rattle.sheet.specs.declared.refusal.Refusal.{Refusal}
 use Rattle.table.specs.TableSheet.{TableSheet, table_letters, table_layout, says, table_at, decode, table_nodes, numbers_ok, below_at, bytes_below, bodies_ok, shape_answer, some_flagged, table_answer}
 use Rattle.table.specs.code.Steps.{ranges_ok, filled_ok}
 use Rattle.table.specs.declared.reading.TableLayout.{TableLayout}
+use Rattle.sheet.proofs.RefusalLaws.{by_accepted}
 use Rattle.sheet.proofs.SizeLaws.{power_bound, small_power}
 
 -- the number of first words
@@ -40,8 +41,6 @@ use Rattle.sheet.proofs.SizeLaws.{power_bound, small_power}
 module _ (A d n : ℕ) where
   pub words_odd : (v : ℕ) → (d % 2 ≡ 0 → ⊥) → v ≡ A → n * v ≡ n * A ^ (d % 2)
   words_odd v e q = let z : d % 2 ≡ 1 = omega arith in rw (z, q, pow-suc A 0, pow-zero A, one-mul A)
-
-pub ruleset words = (rules, words_odd)
 
 -- no byte with a bit at n or above, which is one below 2 ^ n; a is what the bytes before k have together
 
@@ -239,15 +238,6 @@ pub ruleset shapes = (rules, few_actions, short_delay, refuses_10, size_wrong, r
 abbrev pub words_of : List ℕ → Table
 words_of w = record { flags = w; masks = [] }
 
-module _ (w : List ℕ) (v : ℕ) where
-  pub flag_none : get_or w v 0 ≡ 0 → flagged (words_of w) v ≡ false
-  unfolding flagged
-  flag_none e = rw (eq-eqb _ _ e)
-
-  pub flag_set : (get_or w v 0 ≡ 0 → ⊥) → flagged (words_of w) v ≡ true
-  unfolding flagged
-  flag_set e = rw (ne_eqb _ _ e)
-
 -- 12, after the shape
 
 some_any : (w a b : List ℕ) → some_flagged (record { flags = w; masks = a }) ≡ some_flagged (record { flags = w; masks = b })
@@ -258,7 +248,7 @@ module _ (s : List ℕ) (y : Result TableLayout Refusal) (ey : answer_by (table_
   module _ (l : TableLayout) (el : y ≡ Ok l) (w : List ℕ) (ew : w ≡ part_at s l.flags) (r : Bool)
       (er : r ≡ some_flagged (record { flags = w; masks = [] })) where
     shape : shape_answer s ≡ accepted (table_at s l)
-    shape = sym ey ∙ ap (answer_by (table_at s)) el
+    shape = by_accepted (table_at s) y (shape_answer s) ey l el
 
     some : r ≡ some_flagged (table_at s l).table
     some = er ∙ ap (λ b. some_flagged (record { flags = b; masks = [] })) ew ∙ some_any _ _ _

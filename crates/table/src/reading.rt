@@ -15,7 +15,9 @@ use sheet::size::power;
 // The bits of a byte.
 const BYTE: u8 = 8;
 
-// What an accepted reading carries: the start bytes and the places of the W and T bodies.
+// What an accepted reading carries: the start bytes and the places of the W and T bodies. Any numbers: public functions take layouts that
+// nobody checked, so what `read` checked of the delay is asked for where it matters. Not joined with a game sheet's layout (reader), nor its
+// tests: what the start must be is another, and a struct of the start bytes in both would put a step more into every definition that names one.
 #[derive(Clone, Copy, Debug, PartialEq, Eq)]
 pub struct TableLayout {
     pub start: u8,
@@ -49,7 +51,9 @@ fn numbers_ok(l: TableLayout) -> bool
     (1..=MOST_ACTIONS).contains(&l.actions) && l.delay <= MOST_DELAY && l.start <= l.highest
 }
 
-// How many first words there are where so many words are pending: as many, and at an odd delay as many for each action.
+// How many first words there are where so many words are pending: as many, and at an odd delay as many for each action. Not shared with
+// region's `words`: they are two lines each, and a public function for both would take any numbers and cut the product off.
+#[tactic(auto, using(crate::proofs::TableLaws::words_odd))]
 fn first_words(actions: u8, delay: u8, pending: usize) -> usize
     requires { pending ≤ most_power }
     ensures { result ≡ pending * actions ^ (delay % 2) }
@@ -70,6 +74,7 @@ fn bits_below(n: u8, b: &[u8]) -> bool
 }
 
 // Check 11, the number of nodes, and the W and T bodies. Small tables are read in a few nanoseconds, so the power is worked out once.
+#[tactic(auto, using(crate::proofs::TableLaws::bodies))]
 fn bodies_ok(l: TableLayout, w: &[u8], t: &[u8]) -> bool
     requires { (l.actions ≤ most_actions) × (l.delay ≤ most_delay) }
     ensures { result ≡ filled_ok (says l w.now t.now) }
@@ -84,6 +89,7 @@ fn bodies_ok(l: TableLayout, w: &[u8], t: &[u8]) -> bool
 }
 
 // Checks 10 and 11. Reading ends here where first words don't matter.
+#[tactic(auto, using(crate::proofs::TableLaws::shapes))]
 pub fn read_shape(sheet: &[u8]) -> Result<TableLayout, Refusal>
     ensures { answer_by (table_at sheet.now) result ≡ shape_answer sheet.now }
 {
@@ -108,7 +114,7 @@ pub fn some_flagged(w: &[u8]) -> bool
 }
 
 // Checks 10 and 11, then 12.
-#[tactic(auto, unfolding(crate::specs::TableSheet::table_answer, theory::specs::Answer::on_accepted))]
+#[tactic(auto, using(crate::proofs::TableLaws::reads), unfolding(crate::specs::TableSheet::table_answer, theory::specs::Answer::on_accepted))]
 pub fn read(sheet: &[u8]) -> Result<TableLayout, Refusal>
     ensures { answer_by (table_at sheet.now) result ≡ table_answer sheet.now }
 {
@@ -119,7 +125,8 @@ pub fn read(sheet: &[u8]) -> Result<TableLayout, Refusal>
     Ok(l)
 }
 
-// The T body as that part of the caller's sheet: body 2 where the sheet is accepted, and an empty part where it is refused.
+// The T body as that part of the caller's sheet: body 2 where the sheet is accepted, and an empty part where it is refused. No Result: a
+// function that could not fail still can't, and callers who want the refusal call `read`.
 #[tactic(auto, unfolding(crate::specs::TableSheet::masks_of, crate::specs::TableSheet::masks_in))]
 pub fn masks(sheet: &[u8]) -> &[u8]
     ensures { result.now ≡ masks_of sheet.now }
@@ -130,8 +137,8 @@ pub fn masks(sheet: &[u8]) -> &[u8]
     body(sheet, 2)
 }
 
-// Those who judge a table read its T body by these two alone: how many masks it has, and the mask of node k, 0 where there is no such
-// node.
+// Those who judge a table read its T body by these two alone: how many masks it has, and the mask of node k. It is 0 where there is no such
+// node, and no Option: a mask of 0 has no action, which is all that they ask.
 pub fn mask_count(masks: &[u8]) -> usize
     ensures { result ≡ length masks.now }
 {

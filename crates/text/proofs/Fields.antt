@@ -1,20 +1,18 @@
--- Laws of specs/Fields.antt: digits of words and masks by division, how a word stands in its node's number, and how long the
--- fields are. Assumes nothing.
-use Prim.Native.Nat.{ℕ, zero, suc, ◌+◌, ◌-◌, ◌*◌, ◌/◌, ◌%◌, ◌^◌, ◌≤◌, ◌<◌}
+-- Laws of specs/Fields.antt: how a word stands in its node's number, and how long the fields are. Assumes nothing.
+use Prim.Native.Nat.{ℕ, zero, suc, ◌+◌, ◌*◌, ◌/◌, ◌%◌, ◌^◌, ◌≤◌, ◌<◌}
 use mathlib.Core.Path.{◌≡◌, refl, sym, ap, ◌∙◌}
 use mathlib.Core.Bool.{true, false, cond}
 use mathlib.Core.Logic.{⊎_elim}
 use mathlib.Core.List.{List, [], ◌∷◌}
 use native.Mathlib.Omega.{arith}
-use native.Mathlib.Numerals.{add-one}
-use native.Mathlib.Nat.{pow-suc, pow-zero, pow-succ', one-le-pow, mul-zero, mul-pos, mul_assoc}
-use native.Mathlib.Nat.{div-one, div-zero, div-add-mod', div-lt_iff_lt-mul, div-div-eq-div-mul, mul-add-div_right}
+use native.Mathlib.Nat.{pow-suc, one-le-pow, mul-zero, mul-pos, mul_assoc}
+use native.Mathlib.Nat.{div-zero, div-add-mod', div-lt_iff_lt-mul, mul-add-div_right}
 use native.Mathlib.Nat.{mod-zero, zero-mod, mod-lt, mod-eq_of_lt, mod-mod_of_dvd, mul-add-mod_self_right, dvd-mul_left}
 use lib.Dec.{eqb, eqb-suc-zero}
 use lib.ListN.{length, length-append}
-use borrow.Author.Tests.{lt-ltb, le-ltb}
 use Rattle.theory.proofs.Fold.{below?, bool}
 use Rattle.theory.specs.Words.{digit}
+use Rattle.theory.proofs.Words.{digit_shorter, digit_newest}
 use Rattle.theory.specs.Table.{bit}
 use Rattle.text.specs.Ascii.{ascii}
 use Rattle.text.specs.Page.{texts_from}
@@ -22,42 +20,6 @@ use Rattle.text.specs.Numbers.{glyph, decimal_of}
 use Rattle.text.specs.Fields.{digit_text, word_text, action_text, set_text, field_text, position_text, node_text}
 use Rattle.text.proofs.Page.{writing, texts_same, length_texts}
 use Rattle.text.proofs.Numbers.{decimal_is, length_decimal}
-
--- one digit less
-pub divided_again : (n base k : ℕ) → n / base ^ (k + 1) ≡ n / base ^ k / base
-divided_again n base k = ap (λ j. n / base ^ j) (add-one k) ∙ ap (λ j. n / j) (pow-suc base k) ∙ sym (div-div-eq-div-mul n (base ^ k) base)
-
-pub divided_none : (n base : ℕ) → n / base ^ 0 ≡ n
-divided_none n base = ap (λ j. n / j) (pow-zero base) ∙ div-one n
-
--- digits of words
-
-older : (a n v i : ℕ) → i < n → digit a (suc n) v i ≡ digit a n (v / a) i
-unfolding digit
-older a n v i h = simp (lt-ltb i n h)
-
-newest : (a n v i : ℕ) → n ≤ i → digit a (suc n) v i ≡ v % a
-unfolding digit
-newest a n v i h = simp (le-ltb i n h)
-
-pub digit_is : (a n v i : ℕ) → i < n → digit a n v i ≡ v / a ^ (n - 1 - i) % a
-digit_is a zero v i h = absurd (omega arith)
-digit_is a (suc n) v i h =
-    ⊎_elim
-    (λ (l : i < n).
-    let e : suc (n - 1 - i) ≡ suc n - 1 - i = omega arith in
-    older a n v i l
-    ∙ digit_is a n (v / a) i l
-    ∙ ap (λ x. x % a) (div-div-eq-div-mul v a (a ^ (n - 1 - i)))
-    ∙ ap (λ x. v / x % a) (sym (pow-succ' a (n - 1 - i)))
-    ∙ ap (λ x. v / a ^ x % a) e)
-    (λ (g : n ≤ i).
-    let e : 0 ≡ suc n - 1 - i = omega arith in
-    newest a n v i g
-    ∙ ap (λ x. x % a) (sym (div-one v))
-    ∙ ap (λ x. v / x % a) (sym (pow-zero a))
-    ∙ ap (λ x. v / a ^ x % a) e)
-    (below? i n)
 
 -- the last digits of a number are those of its remainder
 
@@ -85,16 +47,16 @@ digit_mod a zero v i h = refl
 digit_mod a (suc n) v i h =
     ⊎_elim
     (λ (l : i < n).
-    older a n (v % a ^ suc n) i l
+    digit_shorter a n (v % a ^ suc n) i l
     ∙ ap (λ x. digit a n (v % x / a) i) (pow-suc a n)
     ∙ ap (λ x. digit a n x i) (mod_div v (a ^ n) a (one-le-pow n a h))
     ∙ digit_mod a n (v / a) i h
-    ∙ sym (older a n v i l))
+    ∙ sym (digit_shorter a n v i l))
     (λ (g : n ≤ i).
-    newest a n (v % a ^ suc n) i g
+    digit_newest a n (v % a ^ suc n) i g
     ∙ ap (λ x. v % x % a) (pow-suc a n)
     ∙ mod-mod_of_dvd a v (dvd-mul_left a (a ^ n))
-    ∙ sym (newest a n v i g))
+    ∙ sym (digit_newest a n v i g))
     (below? i n)
 
 -- without actions there is nothing to divide by
@@ -116,7 +78,7 @@ unfolding word_text
 word_last a l v = ap (cond (eqb l 0) (ascii "-")) (texts_same _ _ 0 l (λ i. digit_last a l v i))
 
 -- as the code asks them
-pub ruleset field_laws = (writing, decimal_is, digit_is, word_last, divided_none, divided_again, div-zero, mod-zero)
+pub ruleset field_laws = (writing, decimal_is, word_last)
 
 -- lengths
 

@@ -19,7 +19,7 @@ impl Page<'_> {
         }
     }
 
-    // Copies a slice.
+    // Copies a slice, byte by byte, so that nobody reckons how many fit.
     pub fn put_text(&mut self, text: &[u8])
         ensures { Puts self.old text.now self.new }
     {

@@ -1,15 +1,15 @@
 // Decimal numbers, words and sets of actions.
 #![tactic(auto, using(crate::proofs::Fields::field_laws), unfolding(crate::proofs::Opened::digits_open))]
 
-ghost use Rattle.std.specs.Prelude.{◌≡◌, ◌∷◌, [], ◌/◌, ◌^◌, ◌<◌};
+ghost use Rattle.std.specs.Prelude.{◌≡◌, ◌∷◌, [], ◌/◌, ◌^◌};
 ghost use Rattle.theory.specs.Table.{bit};
-ghost use Rattle.theory.specs.Words.{digit};
 ghost use Rattle.text.specs.Page.{Puts};
 ghost use Rattle.text.specs.Numbers.{glyph, decimal_of};
 ghost use Rattle.text.specs.Fields.{word_text, set_text};
 
 use super::buffer::Page;
 use itoa::Buffer;
+use sheet::size::{digit, without_last};
 
 // The form of a node: out of how many actions its word is, and how many the word has.
 #[derive(Clone, Copy)]
@@ -18,38 +18,18 @@ pub struct Form {
     pub count: usize,
 }
 
+// The digit of a command's number; it is one byte, so the cast loses nothing.
 #[tactic(auto, unfolding(crate::specs::Numbers::glyph))]
 fn glyph_of(d: usize) -> u8
     ensures { result ≡ glyph d }
 {
-    match d {
-        0..10 => b'0' + d as u8,
-        10..32 => b'a' + (d - 10) as u8,
-        _ => b'?',
-    }
-}
-
-// A number without its last digits in a base.
-fn without_last(n: usize, base: usize, count: usize) -> usize
-    ensures { result ≡ n / base ^ count }
-{
-    let mut rest = n;
-    for _ in 0..count {
-        rest = rest.checked_div(base).unwrap_or(0);
-    }
-    rest
+    u32::try_from(d)
+        .ok()
+        .and_then(|d| char::from_digit(d, 32))
+        .map_or(b'?', |glyph| glyph as u8)
 }
 
 impl Form {
-    // The action at an index of a word, the oldest first.
-    fn action(self, word: usize, i: usize) -> usize
-        requires { i < self.count }
-        ensures { result ≡ digit self.actions self.count word i }
-    {
-        let shown = without_last(word, self.actions, self.count - 1 - i);
-        shown.checked_rem(self.actions).unwrap_or(shown)
-    }
-
     // The position of a node: its number without its word.
     pub(crate) fn position(self, node: usize) -> usize
         ensures { result ≡ node / self.actions ^ self.count }
@@ -72,6 +52,7 @@ impl Page<'_> {
         self.put_byte(glyph_of(d));
     }
 
+    // Not `write!`: it promises its text only where it answers Ok, and these can't fail.
     pub fn put_number(&mut self, n: usize)
         ensures { Puts self.old (decimal_of n) self.new }
     {
@@ -87,7 +68,7 @@ impl Page<'_> {
             return self.put_byte(b'-');
         }
         for i in 0..form.count {
-            self.put_glyph(form.action(word, i));
+            self.put_glyph(digit(form.actions, form.count, word, i));
         }
     }
 

@@ -1,4 +1,5 @@
-// The lines of the listing, and the writers of many lines.
+// The lines of the listing, and the writers of many lines. Lines are put together by methods and not by `write!`, which promises its text
+// only where it answers Ok.
 #![tactic(auto, using(crate::proofs::Lines::line_laws), unfolding(crate::proofs::Opened::lines_open))]
 
 ghost use Rattle.std.specs.Prelude.{ℕ, List};
@@ -121,7 +122,7 @@ impl Page<'_> {
         });
     }
 
-    // A line for each entry that is not 0.
+    // A line for each entry that is not 0. Not joined with `put_allows`: another type of entry and another line, no plainer as parameters.
     pub fn put_ranks(&mut self, form: Form, ranks: &[u16])
         ensures { Puts self.old (rank_lines form.actions form.count ranks.now) self.new }
     {

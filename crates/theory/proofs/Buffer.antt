@@ -1,11 +1,16 @@
--- Reading a buffer that was filled from its front. Assumes nothing.
-use Prim.Native.Nat.{ℕ, ◌+◌, ◌-◌, ◌≤◌, ◌<◌}
-use mathlib.Core.Path.{◌≡◌, sym, ◌∙◌, ap}
+-- Reading a buffer of zeros, and one that was filled from its front. Assumes nothing.
+use Prim.Native.Nat.{ℕ, zero, suc, ◌+◌, ◌-◌, ◌≤◌, ◌<◌}
+use mathlib.Core.Path.{◌≡◌, refl, sym, ◌∙◌, ap}
 use mathlib.Core.List.{List, ◌++◌}
 use native.Mathlib.Omega.{arith}
-use lib.ListN.{length, get_or, take, drop, length-append, get_or-append}
+use lib.ListN.{length, get_or, take, drop, replicate, length-append, get_or-append}
 use lib.Seq.{take-append_seam, get_or-append-add, get_or-drop}
 use Rattle.theory.specs.Buffer.{over}
+
+pub zeros : (n k : ℕ) → get_or (replicate {A = ℕ} n 0) k 0 ≡ 0
+zeros zero k = refl
+zeros (suc n) zero = refl
+zeros (suc n) (suc k) = zeros n k
 
 pub over_front : (entries buffer : List ℕ) (k : ℕ) → k < length entries → get_or (over entries buffer) k 0 ≡ get_or entries k 0
 unfolding over

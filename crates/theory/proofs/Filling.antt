@@ -4,7 +4,7 @@ use mathlib.Core.Path.{◌≡◌, sym, ◌∙◌, ap}
 use mathlib.Core.List.{List, ◌++◌, append-nil}
 use native.Mathlib.Omega.{arith}
 use native.Mathlib.Numerals.{add-one}
-use lib.ListN.{length, get_or, drop, set, length-append, length-drop, drop_of_length-le, get_or-append}
+use lib.ListN.{length, get_or, drop, set, drop_of_length-le, get_or-append}
 use lib.Seq.{get_or-drop, get_or-append-add, drop-cons, set_at, append_snoc, set-get_or}
 use Rattle.theory.specs.Fold.{tabulate}
 use Rattle.theory.specs.Buffer.{over}
@@ -15,11 +15,6 @@ unfoldable pub filled : {A : Type 0} → (ℕ → A) → ℕ → List A → List
 filled f k l = tabulate f 0 k ++ drop k l
 
 module _ {A : Type 0} (f : ℕ → A) (l : List A) where
-  pub length_filled : (k : ℕ) → k ≤ length l → length (filled f k l) ≡ length l
-  unfolding filled
-  length_filled k h =
-      rw (length-append (tabulate f 0 k) (drop k l), length_tabulate f 0 k, length-drop k l) (omega arith)
-
   pub filled_none : l ≡ filled f 0 l
   unfolding filled
   filled_none = rw (tabulate_zero f 0)
@@ -31,6 +26,18 @@ module _ {A : Type 0} (f : ℕ → A) (l : List A) where
       rw (e, add-one k, drop-cons l k v h)
       (set_at (tabulate f 0 k) (get_or l k v) (drop (suc k) l) v k (length_tabulate f 0 k)
       ∙ rw (q, tabulate_last f k) (sym (append_snoc (tabulate f 0 k) (f k) (drop (suc k) l))))
+
+  -- the entries before the loop are still the list's own
+  pub filled_rest : (k j : ℕ) (d : A) → k ≤ j → get_or (filled f k l) j d ≡ get_or l j d
+  unfolding filled
+  filled_rest k j d h =
+      let n = length_tabulate f 0 k in
+      let q : j ≡ length (tabulate f 0 k) + (j - k) = omega arith in
+      let r : k + (j - k) ≡ j = omega arith in
+      ap (λ (i : ℕ). get_or (tabulate f 0 k ++ drop k l) i d) q
+      ∙ get_or-append-add (tabulate f 0 k) (drop k l) (j - k) d
+      ∙ get_or-drop k l (j - k) d
+      ∙ ap (λ (i : ℕ). get_or l i d) r
 
   -- the loop is over
   pub filled_done : (k n : ℕ) {m : List A} → m ≡ filled f k l → length l ≡ n → k ≤ n → n ≤ k → m ≡ tabulate f 0 n
@@ -50,15 +57,7 @@ module _ (f : ℕ → ℕ) (l : List ℕ) where
 
   -- before it
   pub filled_above : (k j : ℕ) → k ≤ j → get_or (filled f k l) j 0 ≡ get_or l j 0
-  unfolding filled
-  filled_above k j h =
-      let n = length_tabulate f 0 k in
-      let q : j ≡ length (tabulate f 0 k) + (j - k) = omega arith in
-      let r : k + (j - k) ≡ j = omega arith in
-      ap (λ (i : ℕ). get_or (tabulate f 0 k ++ drop k l) i 0) q
-      ∙ get_or-append-add (tabulate f 0 k) (drop k l) (j - k) 0
-      ∙ get_or-drop k l (j - k) 0
-      ∙ ap (λ (i : ℕ). get_or l i 0) r
+  filled_above k j h = filled_rest f l k j 0 h
 
   -- one entry more is right as it is
   pub filled_keep : (k : ℕ) {m : List ℕ} → m ≡ filled f k l → k < length l → get_or l k 0 ≡ f k → m ≡ filled f (k + 1) l

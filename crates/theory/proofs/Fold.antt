@@ -7,18 +7,16 @@ use mathlib.Core.List.Memᴰ
 use mathlib.Core.List.{List, [], ◌∷◌, ◌++◌, map, Memᴰ}
 use Rattle.std.proofs.Common.{Some, None, is_some}
 use native.Mathlib.Omega.{arith}
-use native.Mathlib.Nat.{eq-or-lt_of_le, le_of_suc-le-suc, le_refl}
+use native.Mathlib.Nat.{eq-or-lt_of_le, le_of_suc-le-suc}
 use native.Mathlib.Numerals.{add-one}
-use lib.Dec.{eqb, leb, ltb}
-use lib.ListN.{length, get_or, set, take, drop, length-set, length-drop, get_or-eq_default}
-use lib.Seq.{get_or-set_same, get_or-set_other, ext_get_or, take_all}
-use borrow.Author.Tests.{eqb-true, eqb-false, leb-true, le-leb, ltb-true, ltb-false, not-true, not-false}
+use lib.Dec.{leb}
+use lib.ListN.{length, get_or, set, length-set, get_or-eq_default}
+use lib.Seq.{get_or-set_same, get_or-set_other, ext_get_or}
+use borrow.Author.Tests.{leb-true, le-leb, not-true, not-false}
+-- the project's short names for the library's case distinctions: a test passes or fails, a number is below another or not, or is it or not
+pub use Rattle.std.proofs.lemmas.Bool.{cases_Bool as bool, cases_lt as below?, cases_eq as same?}
+pub use mathlib.Core.Bool.{not-not as not_not}
 use Rattle.theory.specs.Fold.{both, either, all_below, any_below, first_not, last_with, count, any_of, tabulate}
-
--- a test passes or fails
-pub bool : (b : Bool) → (b ≡ true) ⊎ (b ≡ false)
-bool true = inl refl
-bool false = inr refl
 
 pub not_both : {b : Bool} → b ≡ true → b ≡ false → ⊥
 not_both p q = true≢false (sym p ∙ q)
@@ -113,10 +111,6 @@ unfolding either
 either_assoc true b c = refl
 either_assoc false b c = refl
 
-pub not_not : (b : Bool) → not (not b) ≡ b
-not_not true = refl
-not_not false = refl
-
 -- a test that asks b only where a holds
 module _ (a b : Bool) where
   pub implied : (a ≡ true → b ≡ true) → either (not a) b ≡ true
@@ -153,12 +147,6 @@ all_suc p n = refl
 pub below_cases : {i n : ℕ} → i < suc n → (i < n) ⊎ (i ≡ n)
 below_cases h = ⊎_elim (λ q. inr q) (λ l. inl l) (eq-or-lt_of_le (le_of_suc-le-suc h))
 
-pub below? : (m n : ℕ) → (m < n) ⊎ (n ≤ m)
-below? m n = ⊎_elim (λ e. inl (ltb-true m n e)) (λ e. inr (ltb-false m n e)) (bool (ltb m n))
-
-pub same? : (m n : ℕ) → (m ≡ n) ⊎ (m ≡ n → ⊥)
-same? m n = ⊎_elim (λ e. inl (eqb-true m n e)) (λ e. inr (eqb-false m n e)) (bool (eqb m n))
-
 -- an entry of a list after a store: the stored one, or the old one
 pub stored : (l : List ℕ) (i v j : ℕ) → i < length l → ((j ≡ i) × (get_or (set l i v) j 0 ≡ v)) ⊎ ((j ≡ i → ⊥) × (get_or (set l i v) j 0 ≡ get_or l j 0))
 stored l i v j h =
@@ -187,13 +175,6 @@ all_fails p i n h e =
 -- one index more, as a loop's next turn finds it: r is the test's result at i, and it passed
 pub all_again : (p : ℕ → Bool) (i : ℕ) {r : Bool} → all_below p i ≡ true → r ≡ p i → r ≡ true → all_below p (i + 1) ≡ true
 all_again p i e q t = rw (add-one i, all_suc p i) (both_true _ _ e (sym q ∙ t))
-
--- the same where the branch is on `!r`, and the test that failed
-pub all_next : (p : ℕ → Bool) (i : ℕ) {r : Bool} → all_below p i ≡ true → r ≡ p i → not r ≡ false → all_below p (i + 1) ≡ true
-all_next p i {r} e q t = all_again p i e q (not-false r t)
-
-pub all_stopped : (p : ℕ → Bool) (i n : ℕ) {r : Bool} → i < n → r ≡ p i → not r ≡ true → all_below p n ≡ false
-all_stopped p i n h q t = all_fails p i n h (failed q t)
 
 -- a shorter range that fails fails the longer one
 pub all_short : (p : ℕ → Bool) {c n : ℕ} → c ≤ n → all_below p c ≡ false → all_below p n ≡ false
@@ -264,16 +245,6 @@ first_stopped p {i} {n} e h =
     ⊎_elim
     (λ (t : all_below p n ≡ true). let q : i ≡ n = e ∙ rw (first_suc p n, t) in absurd (omega arith))
     (λ (f : all_below p n ≡ false). (f, e ∙ rw (first_suc p n, f)))
-    (bool (all_below p n))
-
-pub first_ended : (p : ℕ → Bool) {i n : ℕ} → i ≡ first_not p (suc n) → n ≤ i → all_below p n ≡ true
-first_ended p {i} {n} e h =
-    ⊎_elim
-    (λ (t : all_below p n ≡ true). t)
-    (λ (f : all_below p n ≡ false).
-    let q : i ≡ first_not p n = e ∙ rw (first_suc p n, f) in
-    let b = (first p n f).below in
-    absurd (omega arith))
     (bool (all_below p n))
 
 -- tests that agree below n find the same
@@ -414,13 +385,6 @@ pub any_below_none : (p : ℕ → Bool) (n : ℕ) → any_below p n ≡ false �
 any_below_none p n e i h =
     ⊎_elim (λ (t : p i ≡ true). absurd (not_both (any_holds p i n h t) e)) (λ f. f) (bool (p i))
 
--- one index more of a search that has found nothing
-pub any_again : (p : ℕ → Bool) (i : ℕ) {r : Bool} → any_below p i ≡ false → r ≡ p i → r ≡ false → any_below p (i + 1) ≡ false
-any_again p i e q t = rw (add-one i, any_suc p i) (either_none _ _ e (sym q ∙ t))
-
-pub any_done : (p : ℕ → Bool) {k n : ℕ} → k ≤ n → n ≤ k → any_below p k ≡ false → any_below p n ≡ false
-any_done p {k} {n} l g e = let q : n ≡ k = omega arith in rw q e
-
 -- some element of a list
 
 module _ {A : Type 0} (p : A → Bool) where
@@ -539,10 +503,6 @@ module _ {A : Type 0} where
   -- a range of a tabulated list that is over
   pub tabulate_none : (f : ℕ → A) (i e : ℕ) → e ≤ i → tabulate f i (e - i) ≡ []
   tabulate_none f i e h = let q : e - i ≡ 0 = omega arith in rw q (tabulate_zero f i)
-
--- the rest of a list, as a part of a slice without an end is lent
-pub take_rest : (l : List ℕ) (n : ℕ) → take (length l - n) (drop n l) ≡ drop n l
-take_rest l n = take_all (length l - n) (drop n l) (rw (length-drop n l) (le_refl (length l - n)))
 
 pub count_le : (p : ℕ → Bool) (n : ℕ) → count p n ≤ n
 unfolding count

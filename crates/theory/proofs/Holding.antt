@@ -14,11 +14,7 @@ use Rattle.theory.specs.Game.{Target, absent, to, Game, LegalTarget, Legal}
 use Rattle.theory.specs.Holding.{or_else, held, completed}
 use Rattle.theory.specs.Reach.{is_target, leads, mark_in, marks_after, reached}
 use Rattle.theory.proofs.Fold.{not_both, same_test, any_holds, any_some}
-use Rattle.theory.proofs.Turns.{absent_not_to}
-
-pub which : (t : Target) → (t ≡ absent) ⊎ ((q : ℕ) × (t ≡ to q))
-which absent = inl refl
-which (to q) = inr (q, refl)
+use Rattle.theory.proofs.Turns.{absent_not_to, target_cases}
 
 pub or_else_first : {t : Target} (u : Target) {q : ℕ} → t ≡ to q → or_else t u ≡ to q
 unfolding or_else
@@ -48,7 +44,7 @@ module _ (n : ℕ) (t : ℕ → ℕ → Target) (p c : ℕ) where
       ⊎_elim
       (λ (a : t p c ≡ absent). or_else_second _ a ∙ nothing (ltb c n) ∙ sym a)
       (λ (a : (q : ℕ) × (t p c ≡ to q)). or_else_first _ a.1 ∙ sym a.1)
-      (which (t p c))
+      (target_cases (t p c))
     where
       nothing : (b : Bool) → cond b (t p 0) absent ≡ absent
       nothing true = e
@@ -62,7 +58,7 @@ module _ (n : ℕ) (t : ℕ → ℕ → Target) (p c : ℕ) where
       ⊎_elim
       (λ (a : t p c ≡ absent). inr (by (ltb c n) refl (sym (or_else_second _ a) ∙ e)))
       (λ (a : (r : ℕ) × (t p c ≡ to r)). inl (a.1 ∙ sym (or_else_first _ a.1) ∙ e))
-      (which (t p c))
+      (target_cases (t p c))
     where
       by : (b : Bool) → ltb c n ≡ b → cond b (t p 0) absent ≡ to q → (c < n) × (t p 0 ≡ to q)
       by true i x = (ltb-true c n i, x)
@@ -119,7 +115,7 @@ module _ (h : Bool) (G : Game) where
       ⊎_elim
       (λ (a : t ≡ absent). absurd (not_both e (ap (is_target q) a)))
       (λ (a : (r : ℕ) × (t ≡ to r)). a)
-      (which t)
+      (target_cases t)
 
   abbrev by_own : ℕ → ℕ → ℕ → Bool
   by_own p q c = is_target q (G.target p c)

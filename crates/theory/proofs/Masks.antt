@@ -1,6 +1,6 @@
 -- Laws of masks (specs/Rounds.antt, mask_below; specs/Table.antt, bit; specs/Exact.antt, lowest_in), for every number of actions:
 -- a mask is its bits, and its lowest bit is its count of trailing zeros. Assumes nothing.
-use Prim.Native.Nat.{ℕ, zero, suc, ◌+◌, ◌*◌, ◌/◌, ◌%◌, ◌^◌, ◌≤◌, ◌<◌, zero-le}
+use Prim.Native.Nat.{ℕ, zero, suc, ◌+◌, ◌-◌, ◌*◌, ◌/◌, ◌%◌, ◌^◌, ◌≤◌, ◌<◌, zero-le}
 use mathlib.Core.Path.{◌≡◌, refl, sym, ◌∙◌, ap}
 use mathlib.Core.Bool.{Bool, true, false, not, cond}
 use mathlib.Core.Logic.{⊎_elim}
@@ -129,9 +129,15 @@ mask_bit p (suc n) (suc c) h = rw (mask_front, next_bit) (mask_bit (λ k. p (suc
 pub mask_high : (p : ℕ → Bool) (n c : ℕ) → n ≤ c → bit (mask_below p n) c ≡ false
 mask_high p n c h = bit_high (mask_below p n) n c (mask_lt p n) h
 
-pub mask_same : (p q : ℕ → Bool) (n : ℕ) → ((c : ℕ) → c < n → p c ≡ q c) → mask_below p n ≡ mask_below q n
-mask_same p q n f =
-    bits_ext n _ _ (mask_lt p n) (mask_lt q n) (λ c h. mask_bit p n c h ∙ f c h ∙ sym (mask_bit q n c h))
+-- the mask of all actions
+
+full_mask : (n : ℕ) → mask_below (λ c. true) n ≡ 2 ^ n - 1
+unfolding mask_below
+full_mask zero = refl
+full_mask (suc n) = let e = full_mask n in let p = pow_pos n in omega arith
+
+pub full_bit : (n c : ℕ) → c < n → bit (2 ^ n - 1) c ≡ true
+full_bit n c h = ap (λ (x : ℕ). bit x c) (sym (full_mask n)) ∙ mask_bit (λ d. true) n c h
 
 pub mask_some : (p : ℕ → Bool) (n c : ℕ) → c < n → p c ≡ true → mask_below p n ≡ 0 → ⊥
 mask_some p n c h e z = bit_some (mask_below p n) c (mask_bit p n c h ∙ e) z

@@ -1,9 +1,9 @@
 -- Laws of words (specs/Words.antt), for every number A of actions and every length. Assumes nothing.
-use Prim.Native.Nat.{ℕ, zero, suc, ◌+◌, ◌*◌, ◌/◌, ◌%◌, ◌^◌, ◌≤◌, ◌<◌}
+use Prim.Native.Nat.{ℕ, zero, suc, ◌+◌, ◌-◌, ◌*◌, ◌/◌, ◌%◌, ◌^◌, ◌≤◌, ◌<◌}
 use mathlib.Core.Path.{◌≡◌, refl, sym, ◌∙◌, ap}
 use mathlib.Core.Logic.{⊎_elim}
 use native.Mathlib.Omega.{arith}
-use native.Mathlib.Nat.{pow-suc, pow-zero, zero-mul, mod-lt, div-add-mod', div-lt_iff_lt-mul}
+use native.Mathlib.Nat.{pow-suc, pow-succ', pow-zero, zero-mul, mod-lt, div-one, div-add-mod', div-lt_iff_lt-mul, div-div-eq-div-mul}
 use lib.Arith.{digits_lt, digits_div, digits_mod}
 use borrow.Author.Tests.{lt-ltb, le-ltb}
 use Rattle.theory.specs.Words.{encode, digit}
@@ -46,14 +46,34 @@ module _ (A : ℕ) (g : ℕ → ℕ) (n : ℕ) (l : (i : ℕ) → i < suc n → 
   pub younger : encode A g (suc n) % A ^ n ≡ encode A (λ i. g (suc i)) n
   younger = ap (λ x. x % A ^ n) (encode_front A g n) ∙ digits_mod (g 0) younger_lt
 
-pub digit_last : (A n v : ℕ) → digit A (suc n) v n ≡ v % A
+pub digit_newest : (A n v i : ℕ) → n ≤ i → digit A (suc n) v i ≡ v % A
 unfolding digit
-digit_last A n v = rw (le-ltb n n (omega arith))
+digit_newest A n v i h = rw (le-ltb i n h)
 
 -- the word without its newest action has the same actions
 pub digit_shorter : (A n v i : ℕ) → i < n → digit A (suc n) v i ≡ digit A n (v / A) i
 unfolding digit
 digit_shorter A n v i h = rw (lt-ltb i n h)
+
+-- an action by division: the younger ones are divided away
+pub digit_is : (A n v i : ℕ) → 0 < n → digit A n v i ≡ v / A ^ (n - 1 - i) % A
+digit_is A zero v i h = absurd (omega arith)
+digit_is A (suc n) v i h =
+    ⊎_elim
+    (λ (l : i < n).
+    let e : suc (n - 1 - i) ≡ suc n - 1 - i = omega arith in
+    digit_shorter A n v i l
+    ∙ digit_is A n (v / A) i (omega arith)
+    ∙ ap (λ x. x % A) (div-div-eq-div-mul v A (A ^ (n - 1 - i)))
+    ∙ ap (λ x. v / x % A) (sym (pow-succ' A (n - 1 - i)))
+    ∙ ap (λ x. v / A ^ x % A) e)
+    (λ (g : n ≤ i).
+    let e : 0 ≡ suc n - 1 - i = omega arith in
+    digit_newest A n v i g
+    ∙ ap (λ x. x % A) (sym (div-one v))
+    ∙ ap (λ x. v / x % A) (sym (pow-zero A))
+    ∙ ap (λ x. v / A ^ x % A) e)
+    (below? i n)
 
 pub digit_lt : (A n v i : ℕ) → 0 < A → digit A n v i < A
 unfolding digit
@@ -75,6 +95,6 @@ encode_digit A (suc n) v a l =
       encode_suc A (digit A (suc n) v) n,
       encode_same A (digit A (suc n) v) (digit A n (v / A)) n (digit_shorter A n v),
       encode_digit A n (v / A) a ((div-lt_iff_lt-mul a).1 b),
-      digit_last A n v,
+      digit_newest A n v n (omega arith),
     )
     (div-add-mod' v A)

@@ -1,12 +1,15 @@
 -- The tests that a level is small, that a buffer fits it and that a node exists (specs/code/Nodes.antt). Assumes nothing.
-use Prim.Native.Nat.{ℕ, ◌<◌}
-use mathlib.Core.Path.{◌≡◌, sym, ◌∙◌}
-use mathlib.Core.Bool.{Bool, true, false, not}
+use Prim.Native.Nat.{ℕ, ◌≤◌, ◌<◌}
+use mathlib.Core.Path.{◌≡◌, refl, sym, ◌∙◌}
+use mathlib.Core.Bool.{Bool, true}
+use mathlib.Core.List.{List}
 use lib.Dec.{ltb}
+use lib.ListN.{length}
 use borrow.Author.Rules.{rules}
-use borrow.Author.Tests.{eqb-true, leb-true, ltb-true, eq-eqb, ne_eqb, le-leb, lt-ltb}
-use Rattle.theory.specs.Fold.{both}
-use Rattle.theory.proofs.Fold.{both_true, both_left, both_right, both_none, both_false, both_second, failed, passed}
+use borrow.Author.Tests.{eqb-true, leb-true, ltb-true, eq-eqb, le-leb, lt-ltb}
+use Rattle.theory.specs.Fold.{both, tabulate}
+use Rattle.theory.proofs.Fold.{both_true, both_left, both_right, both_second}
+use Rattle.theory.proofs.Filling.{filled, filled_done}
 use Rattle.walk.specs.declared.level.Level.{Level}
 use Rattle.walk.specs.code.Nodes.{Sized, is_sized, is_fitted, is_node}
 
@@ -36,20 +39,19 @@ module _ (positions : ℕ) (l : Level) where
         few_nodes = leb-true _ _ (both_left _ _ d);
       }
 
-  pub sized_level : {r : Bool} → r ≡ is_sized positions l → not r ≡ false → Sized positions l
-  sized_level e n = tested_sized (passed e n)
-
   pub fitted : (entries : ℕ) → Sized positions l → entries ≡ l.nodes → is_fitted positions l entries ≡ true
   unfolding is_fitted
   fitted entries s e = both_true _ _ (sized_tested s) (eq-eqb _ _ e)
 
-  pub level_unfit : (entries : ℕ) {r : Bool} → r ≡ is_sized positions l → not r ≡ true → is_fitted positions l entries ≡ false
-  unfolding is_fitted
-  level_unfit entries e n = both_none _ _ (failed e n)
+  -- and conversely, by the answer of Arena::is_fitted
 
-  pub buffer_unfit : (entries : ℕ) → (entries ≡ l.nodes → ⊥) → is_fitted positions l entries ≡ false
+  pub fitted_level : (entries : ℕ) {r : Bool} → r ≡ is_fitted positions l entries → r ≡ true → Sized positions l
   unfolding is_fitted
-  buffer_unfit entries n = both_false _ _ (ne_eqb _ _ n)
+  fitted_level entries e t = tested_sized (both_left _ _ (sym e ∙ t))
+
+  pub fitted_entries : {entries : ℕ} {r : Bool} → r ≡ is_fitted positions l entries → r ≡ true → entries ≡ l.nodes
+  unfolding is_fitted
+  fitted_entries e t = eqb-true _ _ (both_right _ _ (sym e ∙ t))
 
   module _ (k : ℕ) where
     -- what the walk of a node that exists may take for granted
@@ -74,5 +76,9 @@ module _ (positions : ℕ) (l : Level) where
     pub at_action : (c : ℕ) {r b : Bool} → Sized positions l → k < l.nodes → c < l.actions
         → r ≡ both (is_node positions l k) (both (ltb c l.actions) b) → r ≡ b
     at_action c s h a e = at_node s h e ∙ both_second _ _ (lt-ltb _ _ a)
+
+-- a buffer that is filled to its end
+pub filled_all : (f : ℕ → ℕ) (l : List ℕ) (k : ℕ) → k ≤ length l → length l ≤ k → filled f k l ≡ tabulate f 0 (length l)
+filled_all f l k h g = filled_done f l k (length l) refl refl h g
 
 pub ruleset guarding = (rules, node_level, node_lt)

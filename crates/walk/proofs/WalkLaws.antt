@@ -1,12 +1,21 @@
 -- What the walk over a node's actions and moves finds, and that it is theory's `spoilt_by` (specs/code/Walks.antt).
 -- Assumes nothing.
 use Prim.Native.Nat.{ℕ, suc, ◌+◌, ◌-◌, ◌*◌, ◌/◌, ◌%◌, ◌≤◌, ◌<◌}
-use mathlib.Core.Path.{◌≡◌, refl, sym, ◌∙◌, ap}
+use mathlib.Core.Path.{◌≡◌, refl, sym, ◌∙◌, ap, subst}
 use mathlib.Core.Bool.{Bool, true, false}
 use mathlib.Core.Logic.{⊎_elim}
-use mathlib.Core.List.{List, map}
+use mathlib.Core.List.{List, [], ◌∷◌, map}
 use Rattle.std.proofs.Common.{Option, Some, None, is_some}
 use native.Mathlib.Omega.{arith}
+use denote.Param.Members.{Mut}
+use denote.Ref.{Bor}
+use Rattle.std.specs.Bool.{⊤}
+use Rattle.std.specs.Fn.{CalledAt}
+use Rattle.std.specs.Iterator.{Yields, YieldsThen}
+use Rattle.std.specs.Iterator.Adapters.{rev_source, rev_steps}
+use Rattle.std.specs.List.{FoldsTo}
+use Rattle.std.specs.Option.{MatchOption}
+use Rattle.std.proofs.iter.runs.Sources.{nat_range_steps_back}
 use native.Mathlib.Nat.{mod-lt, div-lt_iff_lt-mul}
 use native.Mathlib.Numerals.{add-one}
 use lib.ListN.{length, get_or}
@@ -59,7 +68,31 @@ module _ (p : List ℕ) (g : List (List ℕ)) (u : List ℕ) (l : Level) (fallen
   pub lines_over : (line : ℕ) → last_below line ≡ last_below x.end → line ≤ x.first → None ≡ last_below x.end
   lines_over line e h = sym (last_over (spoils_on p g u l fallen x) x.first h) ∙ e
 
-pub ruleset searching = (rules, line_found, line_passed, lines_over)
+-- the same by `find` along a range turned round, p being the test
+
+module _ {F : Type 0} {g : Mut F (Bor ℕ × Unit {0}) Bool} (p : ℕ → Bool) where
+  found_last : (xs : List ℕ) (s t u : _) (f j : F) (r : Option ℕ) → Yields (rev_steps nat_range_steps_back) s xs t
+      → rev_steps nat_range_steps_back t r u → FoldsTo (λ h x q. CalledAt g h x false q) f xs j
+      → MatchOption r ⊤ (λ x. (h : F) × CalledAt g j x true h) → ((x : ℕ) (q : F) → CalledAt g f x true q → p x ≡ true) → ((x : ℕ) (q : F) → CalledAt g f x false q → (q ≡ f) × (p x ≡ false))
+      → r ≡ last_with p (rev_source s).start (rev_source s).end
+  found_last [] s t u f j None y z c m stops goes =
+      rw y (sym (last_over p (rev_source t).start (omega (arith, z.1.0))))
+  found_last [] s t u f j (Some x) y z c m stops goes =
+      let at : x ≡ (rev_source t).end - 1 = omega (arith, z.1.1, z.1.2) in
+      let b = stops x m.0 (subst (λ h. CalledAt g h x true m.0) (sym c) m.1) in
+      rw y (ap Some at ∙ sym (last_here p (rev_source t).start (omega (arith, z.1.0)) (sym b ∙ ap p at) refl))
+  found_last (x ∷ xs) s t u f j r y z c m stops goes =
+      let at : x ≡ (rev_source s).end - 1 = omega (arith, y.1.1.1, y.1.1.2) in
+      let below : (rev_source y.0).end ≡ (rev_source s).end - 1 = omega (arith, y.1.1.2) in
+      let b = goes x c.0 c.1 in
+      let left = found_last xs y.0 t u f j r y.2 z (subst (λ h. FoldsTo (λ i k q. CalledAt g i k false q) h xs j) b.0 c.2) m stops goes in
+      (rw (y.1.0, below) at left) ∙ sym (last_passed p (rev_source s).start (omega (arith, y.1.1.0)) (sym b.1 ∙ ap p at) refl)
+
+  pub last_found : (s u : _) (f : F) (r : Option ℕ)
+      → (xs : List ℕ) × (j : F) × YieldsThen (rev_steps nat_range_steps_back) s xs r u × FoldsTo (λ h x q. CalledAt g h x false q) f xs j
+      × MatchOption r ⊤ (λ x. (h : F) × CalledAt g j x true h) → ((x : ℕ) (q : F) → CalledAt g f x true q → p x ≡ true) → ((x : ℕ) (q : F) → CalledAt g f x false q → (q ≡ f) × (p x ≡ false))
+      → r ≡ last_with p (rev_source s).start (rev_source s).end
+  last_found s u f r d stops goes = found_last d.0 s d.2.0 u f d.1 r d.2.1 d.2.2 d.3 d.4 stops goes
 
 -- a choice is spoilt if there is none or one of its lines spoils it
 
@@ -152,10 +185,7 @@ pub node_small : {k m n p : ℕ} → k < n → n ≡ p * m → p ≤ most_positi
 node_small {k} {m} {n} {p} h e s z =
     let b : k / m < p = (div-lt_iff_lt-mul z).1 (rw e at h) in omega arith
 
-pub word_small : (k : ℕ) {m : ℕ} → 0 < m → k % m < m
-word_small k z = mod-lt k z
-
-pub ruleset walking = (rules, node_small, word_small, spoilt_blocked, spoilt_open)
+pub ruleset walking = (rules, node_small, mod-lt, spoilt_blocked, spoilt_open)
 
 pub ruleset walks =
-    (rules, node_small, word_small, all_none, line_passed, walk_blocked, walk_spoilt, walk_kept, walk_done)
+    (rules, node_small, mod-lt, all_none, line_passed, walk_blocked, walk_spoilt, walk_kept, walk_done)

@@ -6,7 +6,8 @@ ghost use Rattle.walk.specs.code.Levels.{level_to};
 use sheet::limits::{MOST_NODES, MOST_POSITIONS, MOST_POWER, ROW};
 use sheet::size::power;
 
-// words: the number of pending words. A node is a position times words, plus its pending word.
+// words: the number of pending words. A node is a position times words, plus its pending word. odd: a bool and no type of its own, since
+// the delay comes as a number, and theory's definitions take it so.
 #[derive(Clone, Copy)]
 pub struct Level {
     pub start: usize,

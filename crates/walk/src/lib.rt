@@ -1,4 +1,5 @@
-// The walk over one node's actions and moves. Public functions take any numbers: they test that the node exists.
+// The walk over one node's actions and moves. Public functions take any numbers and test that the node exists, but for those of a
+// `SizedArena`, which stands behind the test.
 #![tactic(auto)]
 
 pub mod level; // the numbers of one delay

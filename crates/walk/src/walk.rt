@@ -15,7 +15,7 @@ use sheet::grid::target;
 use sheet::kinds::safe_at;
 
 // What an action that is chosen at a node leads to: the oldest action is played and rest is pending after it; the environment's
-// moves are on the lines from first to end.
+// moves are on the lines from first to end. No ghost field bounds end: the definitions build choices from any numbers.
 #[derive(Clone, Copy)]
 pub struct Choice {
     pub action: usize,
@@ -47,7 +47,8 @@ impl Arena<'_> {
 }
 
 impl SizedArena<'_> {
-    // Action c joined to the pending word w, at position q; none where it is spoilt before the environment moves.
+    // Action c joined to the pending word w, at position q; none where it is spoilt before the environment moves. By parity the oldest
+    // action is still to be played, or was played first.
     #[tactic(auto, unfolding(crate::specs::code::Walks::choice_at, crate::specs::code::Walks::played_at, crate::specs::code::Walks::moves_after), using(crate::proofs::WalkLaws::safe_small))]
     fn choose(&self, q: usize, w: usize, c: usize) -> Option<Choice>
         requires { (q < most_positions) × (w < self.now.arena.now.level.words) × (c < self.now.arena.now.level.actions) }
@@ -68,7 +69,7 @@ impl SizedArena<'_> {
         Some(arena.moves_from(action, rest, reached))
     }
 
-    // Does the environment's move on this line spoil the choice?
+    // Does the environment's move on this line spoil the choice? At odd delays its action is played after the move.
     #[tactic(auto, unfolding(crate::specs::code::Walks::outcome_at, crate::specs::code::Walks::outcome_by, theory::specs::Delay::with_word, theory::specs::Rounds::bad, sheet::specs::code::Arrays::to_at))]
     fn spoils(&self, fallen: &Fallen, x: Choice, line: usize) -> bool
         requires { (x.rest < self.now.arena.now.level.words) × (line < most_power) }
@@ -76,31 +77,27 @@ impl SizedArena<'_> {
     {
         let arena = self.arena;
         let to = usize::from(byte(arena.moves, 2 * line + 1));
-        if !arena.level.odd {
-            return fallen.has(to * arena.level.words + x.rest);
+        if arena.level.odd {
+            // `match`, not `is_none_or`: of a closure that asks `fallen` the proof learns nothing, even by a clause of its own
+            !safe_at(arena.positions, to)
+                || match target(arena.grid, to, x.action) {
+                    Some(reached) => fallen.has(usize::from(reached) * arena.level.words + x.rest),
+                    None => true,
+                }
+        } else {
+            fallen.has(to * arena.level.words + x.rest)
         }
-        if !safe_at(arena.positions, to) {
-            return true;
-        }
-        let Some(reached) = target(arena.grid, to, x.action) else {
-            return true;
-        };
-        fallen.has(usize::from(reached) * arena.level.words + x.rest)
     }
 
     // The last of a choice's lines that spoils it, looked for from the end: it is "nearly always a late line of its position's yard
     // moves" (W-203).
-    #[tactic(auto, using(crate::proofs::WalkLaws::searching))]
     fn last_spoiling(&self, fallen: &Fallen, x: Choice) -> Option<usize>
         requires { (x.rest < self.now.arena.now.level.words) × (x.end < most_power) }
         ensures { result ≡ last_below self.now.arena.now fallen.now x x.end }
     {
-        for line in (x.first..x.end).rev() {
-            if self.spoils(fallen, x, line) {
-                return Some(line);
-            }
-        }
-        None
+        (x.first..x.end)
+            .rev()
+            .find(|&line| self.spoils(fallen, x, line))
     }
 
     // Is action c spoilt at node k, which exists?
@@ -117,7 +114,8 @@ impl SizedArena<'_> {
     }
 
     // Is every action spoilt at node k, which exists? The inner loop goes through an action's lines from the last to the first and
-    // leaves for the next action at the first spoiling one that it meets; an action whose lines all pass ends the walk.
+    // leaves for the next action at the first spoiling one that it meets; an action whose lines all pass ends the walk. Document 01: the
+    // two loops are labelled.
     #[tactic(auto, using(crate::proofs::WalkLaws::walks))]
     fn all_spoilt_at(&self, fallen: &Fallen, k: usize) -> bool
         requires { k < self.now.arena.now.level.nodes }
@@ -145,7 +143,7 @@ impl Arena<'_> {
     // Is action c spoilt at node k? Where there is no such node or action, no. Inlined for speed: as a call it takes 1.3 times as long
     // where many lines are looked at.
     #[inline(always)]
-    #[tactic(auto, unfolding(theory::specs::Fold::both))]
+    #[tactic(auto, unfolding(crate::specs::code::Nodes::is_node, theory::specs::Fold::both), using(crate::proofs::NodeLaws::guarding))]
     pub fn spoilt(&self, fallen: &Fallen, k: usize, c: usize) -> bool
         ensures { result ≡ spoilt self.now fallen.now k c }
     {
@@ -154,8 +152,8 @@ impl Arena<'_> {
             && SizedArena { arena: self }.spoilt_at(fallen, k, c)
     }
 
-    // Is every action spoilt at node k? A node that does not exist: no.
-    #[tactic(auto, unfolding(theory::specs::Fold::both))]
+    // Is every action spoilt at node k? A node that does not exist: no. The test is `spoilt`'s, and one function of both no plainer.
+    #[tactic(auto, unfolding(crate::specs::code::Nodes::is_node, theory::specs::Fold::both), using(crate::proofs::NodeLaws::guarding))]
     pub fn all_spoilt(&self, fallen: &Fallen, k: usize) -> bool
         ensures { result ≡ all_spoilt self.now fallen.now k }
     {

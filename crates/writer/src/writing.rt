@@ -9,20 +9,24 @@ ghost use Rattle.text.specs.Page.{Puts, Writes};
 ghost use Rattle.writer.specs.SheetBytes.{table_bytes, rank_bytes, written_sheet};
 ghost use Rattle.writer.specs.code.Room.{table_room, rank_room};
 
+use sheet::limits::ENTRY;
 use text::buffer::Page;
 
-// The bytes of a table sheet's contents, and what they leave of the largest number of two bytes.
-const TABLE_CONTENTS: usize = 15;
+// The largest number of two bytes.
+const MOST_SHEET: usize = 65535;
 
-const TABLE_ROOM: usize = 65520;
+// The bytes of a table sheet's contents, and how many they leave for its bodies.
+const TABLE_CONTENTS: usize = 3 * ENTRY;
+
+const TABLE_ROOM: usize = MOST_SHEET - TABLE_CONTENTS;
 
 // The contents and the S body of a table sheet.
-pub const TABLE_START: usize = 19;
+pub const TABLE_START: usize = TABLE_CONTENTS + 4;
 
-// The same of a rank sheet.
-const RANK_CONTENTS: usize = 10;
+// The bytes of a rank sheet's contents, and how many they leave for its bodies.
+const RANK_CONTENTS: usize = 2 * ENTRY;
 
-const RANK_ROOM: usize = 65525;
+const RANK_ROOM: usize = MOST_SHEET - RANK_CONTENTS;
 
 // An entry of the contents.
 fn put_entry(page: &mut Page, letter: u8, offset: usize, size: usize)
@@ -47,7 +51,8 @@ fn put_table(page: &mut Page, h: &[u8], w: &[u8], t: &[u8])
     page.put_text(t);
 }
 
-// A table sheet with these S, W and T bodies.
+// A table sheet with these S, W and T bodies. A rank sheet has a function like this one below: what they write, the bodies whose lengths
+// they add, and the room differ, so that as one they would be no plainer.
 pub fn put_table_sheet(out: &mut [u8], h: &[u8], w: &[u8], t: &[u8]) -> usize
     ensures { Writes out.old 0
         (written_sheet width (table_bytes h.now w.now t.now)) out.new result }

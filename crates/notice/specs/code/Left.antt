@@ -3,10 +3,10 @@ use Rattle.std.specs.Prelude.{ℕ, ◌≤◌, ◌≡◌, Bool, true, not, cond, 
 use Rattle.theory.specs.Fold.{both, tabulate}
 use Rattle.theory.specs.Answer.{accepted}
 use Rattle.theory.specs.Buffer.{over}
-use Rattle.theory.specs.Delay.{odd}
+use Rattle.theory.specs.Delay.{odd, arena}
 use Rattle.theory.specs.Table.{Table, TableFits}
-use Rattle.theory.specs.Closing.{listed, post}
-use Rattle.sheet.specs.Limits.{most_nodes}
+use Rattle.theory.specs.Closing.{listed, post, SizedMasks}
+use Rattle.sheet.specs.Limits.{most_words, most_nodes}
 use Rattle.sheet.specs.Form.{part_at}
 use Rattle.sheet.specs.Bodies.{delay_of}
 use Rattle.sheet.specs.SheetGame.{game_of}
@@ -64,10 +64,14 @@ pub record Agreed (s : List ℕ) (l : Layout) (t : List ℕ) (x : TableLayout) :
   pub shape : shape_answer t ≡ accepted (table_at t x)
   pub agrees : sheets_agree s (table_at t x) ≡ true
 
--- a game sheet that was read, a table of its sizes and ranges with the game's numbers, and an output with room for its sheet
+-- a game sheet that was read, a table of its sizes and ranges with the game's numbers, which the largest buffers have room for, and an
+-- output with room for its sheet
 pub record Postable (s : List ℕ) (l : Layout) (x : TableLayout) (flags masks : List ℕ) (room : ℕ) : Type 0 where
   pub reads : read_answer s ≡ accepted l
   pub fits : TableFits (game_of s) (delay_of s) (table_with flags masks)
+  pub sized : SizedMasks (arena (game_of s) (delay_of s)) masks
+  pub few_flags : length flags ≤ most_words
+  pub few_masks : length masks ≤ most_nodes
   pub numbers : numbers_of x ≡ header_of (game_of s) (delay_of s)
   pub room_enough : length (table_bytes (numbers_of x) flags masks) ≤ room
 

@@ -72,6 +72,6 @@ PrunedBy false E before after = after ≡ before
 abbrev pub PrunedLeft : List ℕ → List (List ℕ) → List ℕ → List ℕ → Level → List ℕ → List ℕ → Type 0
 PrunedLeft p g u f l before after = PrunedBy (is_prunable (length p) l (length before)) (arena_of p g u f l) before after
 
--- the same over the code's arena
+-- what is left of the masks over the code's arena
 abbrev pub PrunedOver : Arrays → List ℕ → List ℕ → Type 0
 PrunedOver a = PrunedLeft a.positions.now a.grid.now a.moves.now a.firsts.now a.level

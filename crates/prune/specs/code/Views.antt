@@ -1,17 +1,14 @@
 -- What a method leaves of the code's struct. What holds of every value of it are its ghost fields (src/cut.rt). Assumes nothing.
-use Rattle.std.specs.Prelude.{ℕ, ◌<◌, ◌≡◌, Bool, true, false, not, eqb, length, get_or, set}
+use Rattle.std.specs.Prelude.{ℕ, ◌<◌, ◌≡◌, Bool, true, false, not, eqb, get_or, set}
 use Rattle.walk.specs.code.Arenas.{arena_in}
 use Rattle.rule.specs.code.Parts.{mark_for}
 use Rattle.prune.specs.declared.cut.Pruning.{Pruning}
 use Rattle.prune.specs.code.Pruning.{cut_at, swept_to, changed_to, Cut, Pruned, total}
 
--- the same arena and the same buffers, the queue as long as it was
+-- the same arena and the same masks, which are lent
 pub record Same (w w' : Pruning) : Type 0 where
   pub arena : w'.arena.now ≡ w.arena.now
   pub masks : w'.masks.ghost_name ≡ w.masks.ghost_name
-  pub marks : w'.marks.ghost_name ≡ w.marks.ghost_name
-  pub queue : w'.queue.ghost_name ≡ w.queue.ghost_name
-  pub room : length w'.queue.now ≡ length w.queue.now
 
 -- node k has what is left of its mask, and the mark for that
 pub record Left (w : Pruning) (k v : ℕ) (w' : Pruning) : Type 0 where

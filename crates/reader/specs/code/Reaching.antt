@@ -5,11 +5,12 @@ use Rattle.theory.specs.Fold.{either, any_below, any_of, tabulate, count}
 use Rattle.theory.specs.Reach.{is_target}
 use Rattle.sheet.specs.Limits.{most_positions}
 use Rattle.sheet.specs.code.Arrays.{target_at, tos_between}
+use Rattle.arrayvec.specs.ArrayVec.{ArrayVec}
 use Rattle.reader.specs.declared.reach.Queue.{Queue}
 
--- a queue by its marks, its entries, and how many of them count
-abbrev pub queue_of : List Bool → List ℕ → ℕ → Queue
-queue_of marks entries size = record { marks = marks; entries = entries; size = size }
+-- a queue by its marks and entries
+abbrev pub queue_of : List Bool → ArrayVec ℕ → Queue
+queue_of marks entries = record { marks = marks; entries = entries }
 
 unfoldable pub marked : List Bool → ℕ → Bool
 marked marks r = get_or marks r false
@@ -17,10 +18,9 @@ marked marks r = get_or marks r false
 -- the queue's entries are the positions with a mark
 pub record Queued (w : Queue) : Type 0 where
   pub marks_length : length w.marks ≡ most_positions
-  pub entries_length : length w.entries ≡ most_positions
-  pub number : w.size ≡ count (marked w.marks) most_positions
-  pub holds : (i : ℕ) → i < w.size → marked w.marks (get_or w.entries i 0) ≡ true
-  pub has : (r : ℕ) → marked w.marks r ≡ true → (i : ℕ) × (i < w.size) × (get_or w.entries i 0 ≡ r)
+  pub number : length w.entries.items ≡ count (marked w.marks) most_positions
+  pub holds : (i : ℕ) → i < length w.entries.items → marked w.marks (get_or w.entries.items i 0) ≡ true
+  pub has : (r : ℕ) → marked w.marks r ≡ true → (i : ℕ) × (i < length w.entries.items) × (get_or w.entries.items i 0 ≡ r)
 
 -- marks, and one for each position that passes a test
 unfoldable pub marks_with : (ℕ → Bool) → List Bool → List Bool
@@ -30,8 +30,8 @@ marks_with f marks = tabulate (λ r. either (marked marks r) (f r)) 0 most_posit
 pub record Grown (f : ℕ → Bool) (v w : Queue) : Type 0 where
   pub queued : Queued w
   pub marks : w.marks ≡ marks_with f v.marks
-  pub no_fewer : v.size ≤ w.size
-  pub kept : (i : ℕ) → i < v.size → get_or w.entries i 0 ≡ get_or v.entries i 0
+  pub no_fewer : length v.entries.items ≤ length w.entries.items
+  pub kept : (i : ℕ) → i < length v.entries.items → get_or w.entries.items i 0 ≡ get_or v.entries.items i 0
 
 -- the tests: r is t; the target of one of the first n actions at q; on a line of the U body from i up to e; one move from q
 unfoldable pub is_position : ℕ → ℕ → Bool

@@ -5,6 +5,7 @@ use Rattle.theory.specs.Fold.{both, any_below, tabulate}
 use Rattle.theory.specs.Game.{Game}
 use Rattle.theory.specs.Rounds.{Arena, spoilt_by, kept_by, kept, mask_below}
 use Rattle.theory.specs.Delay.{on_right, good_by}
+use Rattle.theory.specs.Table.{bit}
 use Rattle.sheet.specs.Limits.{most_positions}
 use Rattle.sheet.specs.Kinds.{controller_at}
 use Rattle.sheet.specs.code.Arrays.{view_of}
@@ -12,6 +13,7 @@ use Rattle.walk.specs.declared.level.Level.{Level}
 use Rattle.walk.specs.code.Levels.{arena_of}
 use Rattle.walk.specs.code.Nodes.{Sized, is_sized, is_fitted}
 use Rattle.walk.specs.code.Walks.{fallen_by}
+use Rattle.walk.specs.code.Arenas.{spoilt}
 use Rattle.walk.specs.declared.arena.Arena.{Arena as Arrays}
 use Rattle.walk.specs.declared.arena.Fallen.{Fallen}
 use Rattle.region.specs.declared.words.Kept.{Kept}
@@ -61,6 +63,13 @@ some_good p g l ranks =
 
 abbrev pub masks_left : Arrays → Fallen → List ℕ → List ℕ
 masks_left a f = masks_after a.positions.now a.grid.now a.moves.now a.firsts.now a.level f.last f.marks.now
+
+-- action c is in the mask m and not spoilt at node k
+abbrev pub remains : Arrays → Fallen → ℕ → ℕ → ℕ → Bool
+remains a f k m c = both (bit m c) (not (spoilt a f k c))
+
+abbrev pub unspoilt_part : Arrays → Fallen → ℕ → ℕ → ℕ
+unspoilt_part a f k m = mask_below (remains a f k m) a.level.actions
 
 abbrev pub IsSized : Kept → Type 0
 IsSized w = Sized (length w.positions.now) w.level

@@ -1,6 +1,6 @@
 -- One round over the solver's arrays, and what all rounds leave. Assumes nothing.
 use Rattle.std.specs.Prelude.{ℕ, ◌/◌, ◌≤◌, max, ◌≡◌, Bool, true, false, not, cond, List, [], ◌∷◌, eqb, get_or, length}
-use Rattle.theory.specs.Fold.{both, all_below, tabulate, any_below}
+use Rattle.theory.specs.Fold.{both, all_below, tabulate}
 use Rattle.theory.specs.Rounds.{Arena, spoilt_by, fell, node_falls, rank_in, final_ranks}
 use Rattle.sheet.specs.Kinds.{controller_at, safe_at}
 use Rattle.walk.specs.declared.level.Level.{Level}
@@ -8,7 +8,6 @@ use Rattle.walk.specs.code.Nodes.{is_fitted}
 use Rattle.walk.specs.code.Walks.{fallen_by}
 use Rattle.theory.specs.Delay.{on_right}
 use Rattle.walk.specs.code.Levels.{arena_of}
-use Rattle.walk.specs.code.Arenas.{arena_in}
 use Rattle.walk.specs.declared.arena.Arena as walk
 
 -- a node's rank after round 1
@@ -41,16 +40,7 @@ unfoldable pub Ranked : Bool → Arena → List ℕ → List ℕ → ℕ → Typ
 Ranked true E before after n = (after ≡ final_ranks E) × (n ≡ last_round after)
 Ranked false E before after n = (after ≡ before) × (n ≡ 0)
 
--- over the code's arena: what round n + 1 leaves of the ranks before it, and whether a node fell
-abbrev pub RoundLeaves : walk.Arena → ℕ → List ℕ → List ℕ → Bool → Type 0
-RoundLeaves a n before after any =
-    (after ≡ next_ranks (arena_in a) n before) × (any ≡ any_below (falls_next (arena_in a) n before) a.level.nodes)
-
--- what all rounds leave, and the number of the last
-abbrev pub FinalRanks : walk.Arena → List ℕ → ℕ → Type 0
-FinalRanks a after n = (after ≡ final_ranks (arena_in a)) × (n ≡ last_round after)
-
--- the same for any level and buffer
+-- over the code's arrays: any level and buffer
 abbrev pub RanksLeft : List ℕ → List (List ℕ) → List ℕ → List ℕ → Level → List ℕ → List ℕ → ℕ → Type 0
 RanksLeft p g u f l before after n = Ranked (is_fitted (length p) l (length before)) (arena_of p g u f l) before after n
 

@@ -33,17 +33,10 @@ stays E fallen k m c = both (bit m c) (not (spoilt_by E fallen k c))
 unfoldable pub part_of : Arena → (ℕ → Bool) → ℕ → ℕ → ℕ
 part_of E fallen k m = cond (both (E.right k) (E.safe k)) (mask_below (stays E fallen k m) E.actions) 0
 
--- both over the arrays, what has fallen being the nodes with the mark 1
-abbrev pub stays_in : List ℕ → List (List ℕ) → List ℕ → List ℕ → Level → List ℕ → ℕ → ℕ → ℕ → Bool
-stays_in p g u f l marks k m = stays (arena_of p g u f l) (fallen_by 1 marks) k m
-
--- for any numbers: nothing where there is no such node
+-- over the arrays and for any numbers, what has fallen being the nodes with the mark 1: nothing where there is no such node
 unfoldable pub part_in : List ℕ → List (List ℕ) → List ℕ → List ℕ → Level → List ℕ → ℕ → ℕ → ℕ
 part_in p g u f l marks k m = cond (is_node (length p) l k) (part_of (arena_of p g u f l) (fallen_by 1 marks) k m) 0
 
 -- the same over the code's arena
-abbrev pub stays_at : Arrays → List ℕ → ℕ → ℕ → ℕ → Bool
-stays_at a = stays_in a.positions.now a.grid.now a.moves.now a.firsts.now a.level
-
 abbrev pub part_at : Arrays → List ℕ → ℕ → ℕ → ℕ
 part_at a = part_in a.positions.now a.grid.now a.moves.now a.firsts.now a.level

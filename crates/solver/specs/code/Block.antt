@@ -1,9 +1,9 @@
 -- Nodes at which every action is spoilt whatever falls. Assumes nothing.
-use Rattle.std.specs.Prelude.{ℕ, zero, suc, ◌+◌, ◌*◌, Bool, true, false, not, cond}
+use Rattle.std.specs.Prelude.{ℕ, ◌*◌, Bool, true, false, not, cond}
 use Rattle.theory.specs.Fold.{both}
 use Rattle.theory.specs.Game.{Target, absent, to}
 use Rattle.theory.specs.Rounds.{Arena, spoilt_by}
-use Rattle.solver.specs.code.Work.{Work, spoil_row_to}
+use Rattle.solver.specs.code.Work.{Work, steps_to, spoil_row_to}
 
 -- of a safe node of the right side: an outcome of action 0 is absent before anything has fallen. Other actions have the same
 -- oldest action, so it is absent for them too
@@ -20,6 +20,5 @@ unfoldable pub block_to : Arena → ℕ → Work → ℕ → Work
 block_to E younger w b = cond (blocked_at E (b * younger)) (spoil_row_to 1 w (b * younger) younger) w
 
 -- so many rows, from row b on
-unfoldable pub blocks_to : Arena → ℕ → Work → ℕ → ℕ → Work
-blocks_to E younger w b zero = w
-blocks_to E younger w b (suc count) = blocks_to E younger (block_to E younger w b) (b + 1) count
+abbrev pub blocks_to : Arena → ℕ → Work → ℕ → ℕ → Work
+blocks_to E younger = steps_to (block_to E younger)

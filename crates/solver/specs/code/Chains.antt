@@ -30,6 +30,10 @@ pub record Linked (key : ℕ → ℕ) (n : ℕ) (heads links : List ℕ) : Type 
   pub link : (i : ℕ) → i < n → key i < index_entries → get_or links i 0 ≡ last_of key (key i) i
   pub down : (i : ℕ) → get_or links i 0 ≤ i
 
+-- no place is linked, whatever the keys
+abbrev pub Unlinked : List ℕ → List ℕ → Type 0
+Unlinked heads links = (f : ℕ → ℕ) → Linked f 0 heads links
+
 -- the key of a cell of the grid, by its position and action: its target's mark
 unfoldable pub cell_key : List (List ℕ) → ℕ → ℕ
 cell_key g x = mark_of (target_at g (x / most_actions) (x % most_actions))

@@ -5,11 +5,10 @@ use Rattle.theory.specs.Game.{Game, Legal}
 use Rattle.theory.specs.Rounds.{Arena, masks, final_ranks}
 use Rattle.theory.specs.Delay.{Verdict, wins, losing, words, arena, answer}
 use Rattle.sheet.specs.Size.{nodes_of}
-use Rattle.sheet.specs.code.Arrays.{view_of, bodies_game}
+use Rattle.sheet.specs.code.Arrays.{view_of}
 use Rattle.walk.specs.declared.level.Level.{Level}
 use Rattle.walk.specs.code.Levels.{Room}
 use Rattle.rounds.specs.code.Falling.{AtMost}
-use Rattle.solver.specs.code.Sweep.{Index, Indexed}
 use Rattle.solver.specs.code.Working.{Lines}
 use Rattle.solver.specs.Solving.{solved_delay}
 use Rattle.solver.specs.declared.delays.Stop.{Stop}
@@ -30,7 +29,6 @@ pub record Stopped (G : Game) (d : ℕ) (before after : List ℕ) (r : Stop) : T
 pub record Leveled (E : Arena) (l : Level) (after left : List ℕ) (n : ℕ) : Type 0 where
   pub final : after ≡ final_ranks E
   pub most : AtMost n after
-  pub size : length left ≡ l.nodes
   pub masks : (l.words ≡ 1 → ⊥) → left ≡ masks E
 
 -- the masks where the search stopped: in place where words are pending, and nothing beyond them is touched
@@ -39,23 +37,13 @@ pub record MasksStopped (G : Game) (d : ℕ) (before after : List ℕ) : Type 0 
   pub beyond : drop (arena G d).nodes after ≡ drop (arena G d).nodes before
   pub made : (words G d ≡ 1 → ⊥) → take (arena G d).nodes after ≡ masks (arena G d)
 
--- the arrays hold a legal game whose numbers have room, and so do the buffers; the chains are those of its lines and cells
-pub record Searchable (p : List ℕ) (g : List (List ℕ)) (u f : List ℕ) (x : Index) (start actions delay : ℕ)
-    (masks ranks : List ℕ) : Type 0 where
+-- the arrays hold a legal game whose numbers have room, and so do the buffers
+pub record Fillable (p : List ℕ) (g : List (List ℕ)) (u f : List ℕ) (start actions delay : ℕ) (masks ranks : List ℕ) : Type 0 where
   pub room : Room (length p) actions delay
   pub masks_room : nodes_of (length p) actions delay ≤ length masks
   pub ranks_room : nodes_of (length p) actions delay ≤ length ranks
   pub legal : Legal (view_of p g u f start actions)
   pub moves : Lines (view_of p g u f start actions) u
-  pub indexed : Indexed u g delay x
-
--- bodies and a grid that the solver takes, and buffers with room for them
-pub record Fillable (p : List ℕ) (g : List (List ℕ)) (u : List ℕ) (start actions delay : ℕ) (masks ranks : List ℕ) : Type 0 where
-  pub room : Room (length p) actions delay
-  pub legal : Legal (bodies_game p g u start actions)
-  pub moves : Lines (bodies_game p g u start actions) u
-  pub masks_room : nodes_of (length p) actions delay ≤ length masks
-  pub ranks_room : nodes_of (length p) actions delay ≤ length ranks
 
 -- the answer, and both buffers filled for the delay where the search stopped
 pub record Filled (G : Game) (d : ℕ) (masks_before ranks_before masks_after ranks_after : List ℕ) (r : Stop) : Type 0 where

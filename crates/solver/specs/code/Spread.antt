@@ -1,7 +1,6 @@
 -- The nodes that a fallen node is an outcome of, as the chains give them. Assumes nothing.
-use Rattle.std.specs.Prelude.{ℕ, ◌+◌, ◌*◌, ◌/◌, ◌%◌, ◌≤◌, ◌<◌, ◌≡◌, List, [], ◌∷◌, ◌++◌, map, get_or}
-use Rattle.sheet.specs.Limits.{most_actions, most_nodes}
-use Rattle.solver.specs.code.Sizes.{largest16}
+use Rattle.std.specs.Prelude.{ℕ, ◌+◌, ◌*◌, ◌/◌, ◌%◌, ◌<◌, ◌≡◌, List, [], ◌∷◌, ◌++◌, map, get_or}
+use Rattle.sheet.specs.Limits.{most_actions}
 use Rattle.solver.specs.code.Chains.{chain, head_of}
 
 -- what falls with a node in round n: an action, chosen where a word's younger actions are rest; the node's word is both
@@ -18,13 +17,8 @@ abbrev pub spot : ℕ → ℕ → ℕ → ℕ → ℕ → ℕ → ℕ → Spot
 spot n words younger actions word rest action =
     record { n = n; words = words; younger = younger; actions = actions; word = word; rest = rest; action = action }
 
--- the numbers of a spot are small, and its word is the rest and the action
+-- a spot's word is the rest and the action
 pub record Spotted (s : Spot) : Type 0 where
-  pub round : s.n < largest16
-  pub few_words : s.words ≤ most_nodes
-  pub few_younger : s.younger ≤ most_nodes
-  pub few_rest : s.rest ≤ most_nodes
-  pub few_actions : s.action < most_actions
   pub word_inside : s.word < s.words
   pub rest_is : s.rest ≡ s.word / s.actions
   pub action_is : s.action ≡ s.word % s.actions

@@ -1,12 +1,12 @@
 -- What a node of rank n spoils, and all nodes of that rank. Assumes nothing.
-use Rattle.std.specs.Prelude.{ℕ, zero, suc, ◌+◌, ◌*◌, ◌/◌, ◌%◌, ◌≤◌, ◌<◌, ◌≡◌, Bool, true, false, get_or}
+use Rattle.std.specs.Prelude.{ℕ, ◌*◌, ◌/◌, ◌%◌, ◌≤◌, ◌<◌, ◌≡◌, Bool, true, false, get_or}
 use mathlib.Core.List.{List, Memᴰ}
 use Rattle.theory.specs.Game.{to, Game}
 use Rattle.sheet.specs.Limits.{most_actions, most_nodes}
 use Rattle.sheet.specs.code.Arrays.{to_at, line_count}
 use Rattle.walk.specs.declared.level.Level.{Level}
 use Rattle.solver.specs.code.Sizes.{most_cells}
-use Rattle.solver.specs.code.Work.{Work, marks_to}
+use Rattle.solver.specs.code.Work.{Work, steps_to, marks_to}
 use Rattle.solver.specs.code.Chains.{head_of, chain, Linked, cell_key}
 use Rattle.solver.specs.code.Spread.{Spot, even_nodes, odd_nodes}
 
@@ -58,9 +58,8 @@ spread_to x l younger n w j =
     marks_to n ((j % l.words) % l.actions) w (nodes_before l.odd x (spot_at l younger n j) (j / l.words))
 
 -- so many entries of the queue, from one on
-unfoldable pub sweep_to : Index → Level → ℕ → ℕ → Work → ℕ → ℕ → Work
-sweep_to x l younger n w at zero = w
-sweep_to x l younger n w at (suc count) = sweep_to x l younger n (spread_to x l younger n w (get_or w.queue at 0)) (at + 1) count
+abbrev pub sweep_to : Index → Level → ℕ → ℕ → Work → ℕ → ℕ → Work
+sweep_to x l younger n = steps_to (λ w at. spread_to x l younger n w (get_or w.queue at 0))
 
 -- the chains are those of a game: of the moves to each position, and of the actions that lead to it
 pub record Reverses (G : Game) (x : Index) : Type 0 where

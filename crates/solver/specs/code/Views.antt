@@ -1,8 +1,9 @@
 -- The code's structs, seen as what the definitions speak of. Assumes nothing.
-use Rattle.std.specs.Prelude.{ℕ, ◌≡◌, Bool, List, length}
+use Rattle.std.specs.Prelude.{ℕ, ◌*◌, ◌≡◌, Bool, List, length}
 use Rattle.theory.specs.Game.{Game}
-use Rattle.sheet.specs.code.Arrays.{view_of, firsts_of, bodies_game}
-use Rattle.reader.specs.declared.reading.Layout.{Layout}
+use Rattle.sheet.specs.code.Arrays.{view_of}
+use Rattle.region.specs.declared.arrays.GameArrays.{GameArrays}
+use Rattle.walk.specs.declared.level.Level.{Level}
 use Rattle.walk.specs.declared.arena.Arena.{Arena}
 use Rattle.solver.specs.declared.index.Index.{Index}
 use Rattle.solver.specs.declared.mark.Worklist.{Worklist}
@@ -14,7 +15,7 @@ use Rattle.solver.specs.code.Work.{Work, work, marks_to}
 use Rattle.solver.specs.code.First.{Placed}
 use Rattle.solver.specs.code.Seen.{Seen}
 use Rattle.solver.specs.code.Working.{Workable, Levelable}
-use Rattle.solver.specs.code.Search.{Searchable, Fillable}
+use Rattle.solver.specs.code.Search.{Fillable}
 
 abbrev pub listed : Worklist → Work
 listed w = work w.ranks.now w.masks.now w.queue.now w.tail
@@ -32,10 +33,14 @@ abbrev pub Turned : Worklist → Work → Worklist → Type 0
 Turned before w after = Same before after × (listed after ≡ w)
 
 abbrev pub spotted : Spot → spread.Spot
-spotted s = spread.spot s.n s.words s.younger s.actions s.word s.rest s.action
+spotted s = spread.spot s.round.n s.round.level.words s.round.younger s.round.level.actions s.word s.rest s.action
 
 abbrev pub indexed : Index → sweep.Index
 indexed x = sweep.index x.moves.now x.reaching.now.heads x.reaching.now.links x.leading.now.heads x.leading.now.links
+
+-- how many rows of nodes with the same position and oldest action there are
+abbrev pub row_count : Arena → ℕ
+row_count a = length a.positions.now * a.level.actions
 
 -- the nodes below one are as round 1 leaves them
 abbrev pub PlacedTo : Arena → ℕ → ℕ → Worklist → Type 0
@@ -43,7 +48,7 @@ PlacedTo a full k w = Placed a.positions.now a.level full k (listed w)
 
 -- a spot's action spoilt at these nodes
 abbrev pub Marked : Worklist → Spot → List ℕ → Worklist → Type 0
-Marked before s ks after = Turned before (marks_to s.n s.action (listed before) ks) after
+Marked before s ks after = Turned before (marks_to s.round.n s.action (listed before) ks) after
 
 -- the nodes of a spot that lead to target t, that move to position q with a word, and that a node at position q is an outcome of
 abbrev pub callers_of : Index → Spot → ℕ → List ℕ
@@ -61,8 +66,8 @@ odd_nodes_of x s q =
     spread.odd_nodes x.moves.now x.reaching.now.links x.reaching.now.heads x.leading.now.links (spotted s) (head_of x.leading.now.heads q)
 
 -- what is noted was done: the masks of a list have no bit that a note says is out
-abbrev pub Noted : Index → ℕ → ℕ → ℕ → List Bool → Worklist → Type 0
-Noted x words younger actions seen w = Seen x.leading.now.heads x.leading.now.links words younger actions seen w.masks.now
+abbrev pub Noted : Index → Level → ℕ → List Bool → Worklist → Type 0
+Noted x l younger seen w = Seen x.leading.now.heads x.leading.now.links l.words younger l.actions seen w.masks.now
 
 -- the arena and the index of a level that can be solved by the worklist, where a word has so many younger words; and of any level
 abbrev pub CanWork : Arena → Index → ℕ → Type 0
@@ -71,18 +76,14 @@ CanWork a x younger = Workable a.positions.now a.grid.now a.moves.now a.firsts.n
 abbrev pub CanLevel : Arena → Index → Type 0
 CanLevel a x = Levelable a.positions.now a.grid.now a.moves.now a.firsts.now (indexed x) a.level
 
--- the game that an arena's arrays hold, with the numbers of a sheet; the same by its bodies
-abbrev pub view_in : Arena → Layout → Game
-view_in a l = view_of a.positions.now a.grid.now a.moves.now a.firsts.now l.start l.actions
+-- the game that a sheet's arrays hold
+abbrev pub view_in : GameArrays → Game
+view_in a = view_of a.positions.now a.grid a.moves.now a.firsts a.layout.start a.layout.actions
 
-abbrev pub game_in : Arena → Layout → Game
-game_in a l = bodies_game a.positions.now a.grid.now a.moves.now l.start l.actions
+-- what filling both buffers needs, the masks first; and the index of such a game
+abbrev pub CanFill : GameArrays → List ℕ → List ℕ → Type 0
+CanFill a masks ranks =
+    Fillable a.positions.now a.grid a.moves.now a.firsts a.layout.start a.layout.actions a.layout.delay masks ranks
 
--- what the search upward needs, and filling both buffers; the masks come first
-abbrev pub CanSearch : Arena → Index → Layout → List ℕ → List ℕ → Type 0
-CanSearch a x l masks ranks =
-    Searchable a.positions.now a.grid.now a.moves.now a.firsts.now (indexed x) l.start l.actions l.delay masks ranks
-
-abbrev pub CanFill : Arena → Layout → List ℕ → List ℕ → Type 0
-CanFill a l masks ranks =
-    (a.firsts.now ≡ firsts_of a.moves.now) × Fillable a.positions.now a.grid.now a.moves.now l.start l.actions l.delay masks ranks
+abbrev pub IndexOf : GameArrays → sweep.Index → Type 0
+IndexOf a x = sweep.Indexed a.moves.now a.grid a.layout.delay x

@@ -45,7 +45,11 @@ marks_to n c w ks = foldl (mark_to n c) w ks
 unfoldable pub spoil_all_to : ℕ → Work → ℕ → Work
 spoil_all_to n w k = cond (eqb (get_or w.masks k 0) 0) w (fall_to n w k)
 
--- at so many nodes, from k on
-unfoldable pub spoil_row_to : ℕ → Work → ℕ → ℕ → Work
-spoil_row_to n w k zero = w
-spoil_row_to n w k (suc count) = spoil_row_to n (spoil_all_to n w k) (k + 1) count
+-- a step at so many places, from place i on
+unfoldable pub steps_to : (Work → ℕ → Work) → Work → ℕ → ℕ → Work
+steps_to f w i zero = w
+steps_to f w i (suc count) = steps_to f (f w i) (i + 1) count
+
+-- every action is spoilt at so many nodes, from k on
+abbrev pub spoil_row_to : ℕ → Work → ℕ → ℕ → Work
+spoil_row_to n = steps_to (spoil_all_to n)

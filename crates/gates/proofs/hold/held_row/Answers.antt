@@ -2,11 +2,7 @@
 use Rattle.std.proofs.Common.{rules, tests}
 use Rattle.sheet.proofs.ChainLaws.{made_is}
 use Rattle.gates.specs.code.Held.{cell_held, row_held}
-use Rattle.gates.proofs.HoldLaws.{row_still}
 use Rattle.gates.proofs.hold.held_row.Goals as goal
-
-pub returns-then-row-eq-ABSENT : goal.returns-then-row-eq-ABSENT
-returns-then-row-eq-ABSENT c = row_still c.args.actions c.args.row.now c.told-row c.if-row-eq-ABSENT.true
 
 pub returns-else-row-eq-ABSENT : goal.returns-else-row-eq-ABSENT
 unfolding row_held

@@ -1,11 +1,23 @@
--- `targets_ok` meets its contract. Assumes nothing.
-use Rattle.std.proofs.Common.{rules, tests, ◌/◌, length, refl}
-use Rattle.reader.specs.Checks.{target_ok}
-use Rattle.sheet.proofs.ChainLaws.{all_indices}
-use Rattle.reader.proofs.CheckLaws.{targets_all}
+-- `targets_ok` meets its contract: its lines are in order, and each goes from side to side. Assumes nothing.
+use Rattle.std.proofs.Common.{rules, tests, arith, []}
+use Rattle.std.proofs.lemmas.Fn.{always_returns_same}
+use Rattle.theory.specs.Fold.{both}
+use Rattle.sheet.proofs.ChainLaws.{all_slice}
+use Rattle.reader.proofs.CheckLaws.{key_below, target_line, target_sided, target_same, targets_are, unordered, ordered}
 use Rattle.reader.proofs.lines.targets_ok.Goals as goal
 
-pub returns-then-c-eq0 : goal.returns-then-c-eq0
-returns-then-c-eq0 c =
-    targets_all _ _ _ c.if-c-eq0.true
-    (all_indices (target_ok c.args.p.now c.args.actions c.args.c.now) (length c.args.c.now / 3) refl c.all.ensures.ran (λ x b q k. search (rules, tests)))
+pub returns-else-is_sorted_by : goal.returns-else-is_sorted_by
+returns-else-is_sorted_by c =
+    let l = c.as_chunks.ensures in
+    unordered 3 c.args.c.now _ l.front l.front_len (omega arith) _ (targets_are c.args.p.now c.args.actions c.args.c.now (omega (arith, l.back_len, c.in_default-empty.len_below)))
+    (c.is_sorted_by.ensures.cases key_below (always_returns_same _ _ _ (λ a r f k. search (rules, tests)))) c.if-is_sorted_by.false
+
+pub returns-then-is_sorted_by : goal.returns-then-is_sorted_by
+unfolding both
+returns-then-is_sorted_by c =
+    let l = c.as_chunks.ensures in
+    let sided = target_sided c.args.p.now c.args.actions c.args.c.now in
+    ordered 3 c.args.c.now _ l.front l.front_len (omega arith) sided (targets_are c.args.p.now c.args.actions c.args.c.now (omega (arith, l.back_len, c.in_default-empty.len_below)))
+    (c.is_sorted_by.ensures.cases key_below (always_returns_same _ _ _ (λ a r f k. search (rules, tests)))) c.if-is_sorted_by.true
+    (all_slice (target_line c.args.p.now c.args.actions) sided [] _ c.iter.ensures.rest
+    (target_same _ _ _ _ l.front l.front_len) c.all.ensures.ran (λ x b q k. search (rules, tests)))

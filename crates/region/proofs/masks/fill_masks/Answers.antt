@@ -1,7 +1,6 @@
 -- `fill_masks` meets its contract. Assumes nothing.
-use borrow.Author.Rules.{rules}
-use Rattle.walk.proofs.NodeLaws.{sized_level}
+use Rattle.walk.proofs.NodeLaws.{fitted_entries}
 use Rattle.region.proofs.masks.fill_masks.Goals as goal
 
-pub invariant_of-all_masks : goal.invariant_of-all_masks
-invariant_of-all_masks c = record { fits = search (rules, sized_level) }
+pub all_masks-requires : goal.all_masks-requires
+all_masks-requires c = fitted_entries _ _ c.is_fitted.ensures c.if-not-is_fitted.false

@@ -8,17 +8,14 @@ returns-in_default-clause-count c = search flagging
 pub returns-in_default-clause-flags : goal.returns-in_default-clause-flags
 returns-in_default-clause-flags c = search flagging
 
-pub words-n-requires : goal.words-n-requires
-words-n-requires c = search flagging
+pub invariant_of-sized : goal.invariant_of-sized
+invariant_of-sized c = record { fits = search flagging; start = search flagging }
 
 pub returns-then-flags-n-clause-count : goal.returns-then-flags-n-clause-count
 returns-then-flags-n-clause-count c = search flagging
 
 pub returns-then-flags-n-clause-flags : goal.returns-then-flags-n-clause-flags
 returns-then-flags-n-clause-flags c = search flagging
-
-pub fill_flags-requires : goal.fill_flags-requires
-fill_flags-requires c = search flagging
 
 pub returns-clause-count : goal.returns-clause-count
 returns-clause-count c = search flagging

@@ -1,12 +1,8 @@
 -- `allowed_part` meets its contract. Assumes nothing.
-use Rattle.walk.proofs.NodeLaws.{node_level, guarding}
+use Rattle.rule.proofs.PartCode.{part_stands}
 use Rattle.rule.proofs.part.allowed_part.Goals as goal
 
-pub unspoilt_part-requires : goal.unspoilt_part-requires
-unspoilt_part-requires c = search guarding
-
-pub invariant_of-unspoilt_part : goal.invariant_of-unspoilt_part
-invariant_of-unspoilt_part c = record { fits = node_level _ _ _ c.is_node.ensures c.if-not-is_node.false }
-
-pub nonzero_div-q : goal.nonzero_div-q
-nonzero_div-q c = (node_level _ _ _ c.is_node.ensures c.if-not-is_node.false).some_word
+pub returns-then-safe_at : goal.returns-then-safe_at
+returns-then-safe_at c =
+    part_stands _ _ _ _ _ _ _ _ c.is_node.ensures c.if-is_node.true c.on_right.ensures c.if-on_right.true c.safe_at.ensures c.if-safe_at.true
+    c.unspoilt_part.ensures

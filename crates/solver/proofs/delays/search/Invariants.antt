@@ -7,8 +7,8 @@ use Rattle.solver.proofs.delays.search.Given as goal
 
 abbrev pub invariant-delays : goal.invariant-delays
 invariant-delays l =
-    let nodes = nodes_of (length l.arena.positions.now) l.l.actions l.d in
-    Searched (view_in l.arena l.l) nodes l.l.delay l.d l.initial.ranks l.ranks × Beyond nodes l.initial.masks l.masks
+    let nodes = nodes_of (length l.game.positions.now) l.game.layout.actions l.d in
+    Searched (view_in l.game) l.game.layout.delay l.d × Beyond nodes l.initial.ranks l.ranks × Beyond nodes l.initial.masks l.masks
 
 abbrev pub decreases-delays : goal.decreases-delays
-decreases-delays l = l.l.delay - l.d
+decreases-delays l = l.game.layout.delay - l.d

@@ -2,14 +2,11 @@
 use Rattle.std.proofs.Common.{rules, refl}
 use Rattle.sheet.specs.code.Arrays.{to_at}
 use Rattle.solver.specs.code.Chains.{cell_key}
-use Rattle.solver.proofs.SweepLaws.{index_none, index_both}
+use Rattle.solver.proofs.SweepLaws.{index_both}
 use Rattle.solver.proofs.index.link_both.Goals as goal
-
-pub returns-then-delay-lt2 : goal.returns-then-delay-lt2
-returns-then-delay-lt2 c = index_none _ _ _ _ refl c.if-delay-lt2.true
 
 pub returns : goal.returns
 unfolding to_at
 returns c =
-    index_both _ _ _ _ refl (rw c.line_count.ensures at (c.link.ensures (to_at c.args.u.now) (λ i r h e. search rules)))
-    (c.link-2.ensures (cell_key c.args.grid.now) (λ i r h e. search rules))
+    index_both _ _ _ _ refl (rw c.line_count.ensures at (c.link.ensures (to_at c.args.game.now.moves.now) (λ i r h e. search rules)))
+    (c.link-2.ensures (cell_key c.args.game.now.grid) (λ i r h e. search rules))

@@ -9,7 +9,7 @@ abbrev pub invariant-rounds : goal.invariant-rounds
 invariant-rounds l =
     Same l.fn.work l.work
     × Rounding (arena_in l.fn.arena) l.n l.lo l.hi (listed l.work)
-    × Noted l.index l.fn.arena.level.words l.younger l.fn.arena.level.actions l.seen l.work
+    × Noted l.index l.fn.arena.level l.younger l.seen l.work
 
 abbrev pub decreases-rounds : goal.decreases-rounds
 decreases-rounds l = l.fn.arena.level.nodes - l.hi

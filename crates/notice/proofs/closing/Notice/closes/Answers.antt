@@ -9,5 +9,5 @@ use Rattle.notice.proofs.closing.Notice.closes.Goals as goal
 
 pub returns : goal.returns
 returns c =
-    any_from_yields_List (λ x. eqb x c.args.q) _ _ _ c.any.ensures.ran (YieldsList-from_slice _ c.iter.ensures.rest) (λ x b q k. search rules)
+    any_from_yields_List (eqb c.args.q) _ _ _ c.any.ensures.ran (YieldsList-from_slice _ c.iter.ensures.rest) (λ x b q k. search rules)
     ∙ any_listed c.args.self.now.positions.now c.args.q

@@ -3,7 +3,8 @@ use mathlib.Core.Path.{refl}
 use native.Mathlib.Omega.{arith}
 use Prim.Native.Nat.{ℕ}
 use lib.ListN.{length-replicate}
-use Rattle.solver.proofs.ChainLaws.{zeros, linked_none}
+use Rattle.theory.proofs.Buffer.{zeros}
+use Rattle.solver.proofs.ChainLaws.{linked_none}
 use Rattle.solver.proofs.chain.Chain.new.Goals as goal
 
 pub invariant_of-result-clause-heads_end : goal.invariant_of-result-clause-heads_end

@@ -9,5 +9,5 @@ use Rattle.solver.proofs.index.Index.mark_callers.Given as goal
 abbrev pub invariant-loop-x : goal.invariant-loop-x
 invariant-loop-x l =
     Same l.initial.work l.work
-    × (marks_to l.spot.n l.spot.action (listed l.initial.work) (callers_of l.self l.spot l.t)
-    ≡ marks_to l.spot.n l.spot.action (listed l.work) (map (caller_at (spotted l.spot)) (chain l.x-iterator.links.now l.x-iterator.at)))
+    × (marks_to l.spot.round.n l.spot.action (listed l.initial.work) (callers_of l.self l.spot l.t)
+    ≡ marks_to l.spot.round.n l.spot.action (listed l.work) (map (caller_at (spotted l.spot)) (chain l.x-iterator.links.now l.x-iterator.at)))

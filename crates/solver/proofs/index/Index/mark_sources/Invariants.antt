@@ -9,5 +9,5 @@ use Rattle.solver.proofs.index.Index.mark_sources.Given as goal
 abbrev pub invariant-loop-i : goal.invariant-loop-i
 invariant-loop-i l =
     Same l.initial.work l.work
-    × (marks_to l.spot.n l.spot.action (listed l.initial.work) (sources_of l.self l.spot l.word l.q)
-    ≡ marks_to l.spot.n l.spot.action (listed l.work) (map (source_at l.self.moves.now (spotted l.spot) l.word) (chain l.i-iterator.links.now l.i-iterator.at)))
+    × (marks_to l.spot.round.n l.spot.action (listed l.initial.work) (sources_of l.self l.spot l.word l.q)
+    ≡ marks_to l.spot.round.n l.spot.action (listed l.work) (map (source_at l.self.moves.now (spotted l.spot) l.word) (chain l.i-iterator.links.now l.i-iterator.at)))

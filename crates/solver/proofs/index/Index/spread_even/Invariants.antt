@@ -9,7 +9,7 @@ use Rattle.solver.proofs.index.Index.spread_even.Given as goal
 abbrev pub invariant-loop-i : goal.invariant-loop-i
 invariant-loop-i l =
     Same l.initial.work l.work
-    × Noted l.self l.spot.words l.spot.younger l.spot.actions l.seen l.work
-    × (marks_to l.spot.n l.spot.action (listed l.initial.work) (even_nodes_of l.self l.spot l.q)
-    ≡ marks_to l.spot.n l.spot.action (listed l.work)
+    × Noted l.self l.spot.round.level l.spot.round.younger l.seen l.work
+    × (marks_to l.spot.round.n l.spot.action (listed l.initial.work) (even_nodes_of l.self l.spot l.q)
+    ≡ marks_to l.spot.round.n l.spot.action (listed l.work)
     (gather (λ i. callers_of l.self l.spot (get_or l.self.moves.now (2 * i) 0)) (chain l.i-iterator.links.now l.i-iterator.at)))

@@ -10,6 +10,6 @@ use Rattle.solver.proofs.index.Index.spread_odd.Given as goal
 abbrev pub invariant-loop-x : goal.invariant-loop-x
 invariant-loop-x l =
     Same l.initial.work l.work
-    × (marks_to l.spot.n l.spot.action (listed l.initial.work) (odd_nodes_of l.self l.spot l.q)
-    ≡ marks_to l.spot.n l.spot.action (listed l.work)
+    × (marks_to l.spot.round.n l.spot.action (listed l.initial.work) (odd_nodes_of l.self l.spot l.q)
+    ≡ marks_to l.spot.round.n l.spot.action (listed l.work)
     (gather (λ x. sources_of l.self l.spot (word_at (spotted l.spot) x) (x / most_actions)) (chain l.x-iterator.links.now l.x-iterator.at)))

@@ -1,13 +1,10 @@
 -- `spoil_row` meets its contract. What is left from here on is all that was to be done. Assumes nothing.
 use Rattle.std.proofs.Common.{rules}
-use Rattle.solver.proofs.MarkLaws.{spoil_row_again, spoil_row_end, spoil_row_start}
+use Rattle.solver.proofs.MarkLaws.{steps_again, steps_end}
 use Rattle.solver.proofs.mark.Worklist.spoil_row.Goals as goal
 
-pub loop-i-init : goal.loop-i-init
-loop-i-init c = (search rules, spoil_row_start _ _ _ _)
-
 pub loop-i-preserved : goal.loop-i-preserved
-loop-i-preserved c = (search rules, spoil_row_again _ _ _ _ c.loop-i.invariant.1 c.loop-i-test.true c.spoil_all.ensures.1)
+loop-i-preserved c = (search rules, steps_again _ _ _ _ c.loop-i.invariant.1 c.loop-i-test.true c.spoil_all.ensures.1)
 
 pub returns : goal.returns
-returns c = (c.loop-i.invariant.0, spoil_row_end _ _ _ _ c.loop-i.invariant.1 c.loop-i-test.false)
+returns c = (c.loop-i.invariant.0, steps_end _ _ _ _ c.loop-i.invariant.1 c.loop-i-test.false)
