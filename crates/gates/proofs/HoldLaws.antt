@@ -23,15 +23,15 @@ use Rattle.gates.specs.code.Held.{cell_held, row_held, row_held_at, grid_held, h
 -- one cell
 
 module _ (actions : ℕ) (row : List ℕ) (x : ℕ) where
-  cell_own : (get_or row x 0 ≡ absent_mark → ⊥) → get_or row x 0 ≡ cell_held actions row x
+  pub cell_own : (get_or row x 0 ≡ absent_mark → ⊥) → get_or row x 0 ≡ cell_held actions row x
   unfolding cell_held
   cell_own n = rw (both_none _ (ltb x actions) (ne_eqb _ _ n))
 
-  cell_beyond : actions ≤ x → get_or row x 0 ≡ cell_held actions row x
+  pub cell_beyond : actions ≤ x → get_or row x 0 ≡ cell_held actions row x
   unfolding cell_held
   cell_beyond h = rw (both_false _ _ (le-ltb x actions h))
 
-  cell_first : get_or row x 0 ≡ absent_mark → x < actions → get_or row 0 0 ≡ cell_held actions row x
+  pub cell_first : get_or row x 0 ≡ absent_mark → x < actions → get_or row 0 0 ≡ cell_held actions row x
   unfolding cell_held
   cell_first e h = rw (both_true _ _ (eq-eqb _ _ e) (lt-ltb x actions h))
 

@@ -28,7 +28,7 @@ unfolding measured on_accepted if_made output_after
 refuses k a n e M M₂ R R₂ O = record { answer = rw e; masks = rw e; ranks = rw e; output = rw e }
 
 -- where it was accepted, the buffers are as in solving
-accepts : (k : ℕ) (a : Answer Made) (y : Made) → a ≡ accepted y → (r : Answer Measured) (M M₂ M' R R₂ R' O O' : List ℕ)
+pub accepts : (k : ℕ) (a : Answer Made) (y : Made) → a ≡ accepted y → (r : Answer Measured) (M M₂ M' R R₂ R' O O' : List ℕ)
     → r ≡ measured k a → M' ≡ M₂ → R' ≡ R₂ → O' ≡ output_after a O → Meets k a r M M₂ M' R R₂ R' O O'
 unfolding if_made
 accepts k a y e r M M₂ M' R R₂ R' O O' f g h i = record { answer = f; masks = g ∙ rw e; ranks = h ∙ rw e; output = i }

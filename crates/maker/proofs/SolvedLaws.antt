@@ -158,17 +158,17 @@ module _ (s : List ℕ) (l : Layout) (M R O : List ℕ) (ready : Ready s l (leng
       nodes : nodes_at l m ≡ (arena G m).nodes
       nodes = nodes_are s l ready.reads m
 
-      losing_short : m ≤ most_delay
+      pub losing_short : m ≤ most_delay
       losing_short = omega (arith, early m verdict_loses, ranged.short_delay)
 
-      losing_few : nodes_at l m ≤ most_nodes
+      pub losing_few : nodes_at l m ≤ most_nodes
       losing_few = rw nodes (omega (arith, nodes_more G ranged.legal m d (early m verdict_loses), ranged.few_nodes))
 
       ranks_are : R' ≡ over (final_ranks (arena G m)) R
       unfolding solved_delay
       ranks_are = ranks_over ∙ rw verdict_loses
 
-      losing_inside : nodes_at l m ≤ length R'
+      pub losing_inside : nodes_at l m ≤ length R'
       losing_inside = rw (ranks_are, nodes) (omega (arith, final_length (arena G m), over_room (final_ranks (arena G m)) R))
 
       -- so the rank sheet can be written

@@ -53,7 +53,7 @@ module _ (s : List ℕ) (l : Layout) (M R : List ℕ) (has : HasTable s l M R) w
   abbrev d : ℕ
   d = delay_of s
 
-  has_small : Small l
+  pub has_small : Small l
   has_small = small s l has.reads
 
   pub has_delay : l.delay ≤ 6
@@ -68,36 +68,48 @@ module _ (s : List ℕ) (l : Layout) (M R : List ℕ) (has : HasTable s l M R) w
   pub masks_inside : (n : ℕ) → n ≡ nodes_at l l.delay → n ≡ length (take n M)
   masks_inside n e = asked n e ∙ sym (length_masks (arena G d)) ∙ ap length (sym (front_masks n e))
 
-  module _ (w : ℕ) (B F : List ℕ) (ew : w ≡ flags_count s most_words) (ef : F ≡ flags_after s R B) (room : length B ≡ most_words) where
+  module _ (w : ℕ) (B F : List ℕ) (room : most_words ≤ length B) (ew : w ≡ flags_count s (length B)) (ef : F ≡ flags_after s R B) where
     all_words : initial_words G d ≤ length B
-    all_words = omega (arith, room, few_words G d (sheet_ranged s l has.reads))
+    all_words = omega (arith, few_words G d (sheet_ranged s l has.reads))
 
     flags_over : F ≡ over (flags G d) B
     flags_over = ef ∙ flags_theory s R B l has.reads all_words has.ranks
 
     words_are : w ≡ length (flags G d)
     unfolding ours
-    words_are = (ew ∙ ap (flags_count s) (sym room)) ∙ words_counted s l (length B) has.reads all_words ∙ sym (ours_fits G d).flags_length
+    words_are = ew ∙ words_counted s l (length B) has.reads all_words ∙ sym (ours_fits G d).flags_length
 
     front_flags : take w F ≡ flags G d
     front_flags = rw flags_over (over_first (flags G d) B w words_are)
 
-    pub flags_room : w ≤ length F
-    flags_room = rw flags_over (omega (arith, words_are, over_room (flags G d) B))
-
-    pub flags_inside : w ≡ length (take w F)
-    flags_inside = sym (length-take-le w F flags_room)
+    flags_fit : w ≤ length F
+    flags_fit = rw flags_over (omega (arith, words_are, over_room (flags G d) B))
 
     module _ (n : ℕ) (h : List ℕ) (en : n ≡ nodes_at l l.delay) (eh : h ≡ header_bytes l l.delay) where
       table_bytes_lem : table_bytes h (take w F) (take n M) ≡ table_sheet_of G d
       unfolding table_sheet_of table_sheet ours
       table_bytes_lem = rw (eh ∙ asked_header s l has.reads, front_flags, front_masks n en)
 
+  -- the same in a buffer of most_words, which the code has
+  module _ (w : ℕ) (B F : List ℕ) (ew : w ≡ flags_count s most_words) (ef : F ≡ flags_after s R B) (room : length B ≡ most_words) where
+    enough : most_words ≤ length B
+    enough = omega (arith, room)
+
+    counted : w ≡ flags_count s (length B)
+    counted = ew ∙ ap (flags_count s) (sym room)
+
+    pub flags_room : w ≤ length F
+    flags_room = flags_fit w B F enough counted ef
+
+    pub flags_inside : w ≡ length (take w F)
+    flags_inside = sym (length-take-le w F flags_room)
+
+    module _ (n : ℕ) (h : List ℕ) (en : n ≡ nodes_at l l.delay) (eh : h ≡ header_bytes l l.delay) where
       pub table_written : (p : Page) {q : Page} → q ≡ puts p (written_sheet 2 (table_bytes h (take w F) (take n M)))
           → q ≡ puts p (table_sheet_of G d)
       table_written p e =
           e
-          ∙ ap (λ t. puts p (written_sheet 2 t)) table_bytes_lem
+          ∙ ap (λ t. puts p (written_sheet 2 t)) (table_bytes_lem w B F enough counted ef n h en eh)
           ∙ ap (puts p) (written_whole 2 (table_sheet_of G d) (table_sheet_short G d (sheet_ranged s l has.reads)))
 
 pub ruleset table_sheets =

@@ -33,7 +33,7 @@ any_listed (x ∷ ps) q = rw (any_listed ps q) (sym (listed_cons x ps q))
 -- one byte
 
 module _ (b : ℕ) where
-  close_unsafe : (b ≡ 0 → ⊥) → (b ≡ 2 → ⊥) → b ≡ closed_byte b
+  pub close_unsafe : (b ≡ 0 → ⊥) → (b ≡ 2 → ⊥) → b ≡ closed_byte b
   unfolding closed_byte
   close_unsafe n m = rw (ne_eqb b 0 n, ne_eqb b 2 m)
 

@@ -2,3 +2,4 @@
 pub mod PacketBytes
 pub mod Rearranged
 pub mod WalkLaws
+pub mod ToldLaws

@@ -197,7 +197,7 @@ module _ (w : ℕ) (b : List ℕ) where
 -- the positions that leave, by the passes over both bodies
 
 module _ (p c u : List ℕ) where
-  leaves_is : (q : ℕ) {t m : List Bool} → q < length p → length p ≤ most_positions
+  pub leaves_is : (q : ℕ) {t m : List Bool} → q < length p → length p ≤ most_positions
       → t ≡ tabulate (has_line 3 c (length c / 3)) 0 most_positions → m ≡ tabulate (has_line 2 u (length u / 2)) 0 most_positions
       → leaves_by p t m q ≡ leaves_at p c u q
   unfolding leaves_at leaves_by

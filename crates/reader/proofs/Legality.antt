@@ -329,6 +329,13 @@ module _ (s : List ℕ) (r : Checked s) where
   moves_rise k h =
       rises_next 2 (moves_body s) k (environment_line (positions_body s) (moves_body s) r.moves (suc k) h).rises
 
+  -- and those of the C body
+  pub targets_rise : (k : ℕ) → suc k < length (targets_body s) / 3
+      → key_at (targets_body s) (3 * k) < key_at (targets_body s) (3 * suc k)
+  targets_rise k h =
+      rises_next 3 (targets_body s) k
+      (target_line (positions_body s) (action_count s) (targets_body s) r.targets (suc k) h).rises
+
   -- so the positions that its lines begin with never fall
   pub moves_ordered : (k : ℕ) → suc k < length (moves_body s) / 2 → get_or (moves_body s) (2 * k) 0 ≤ get_or (moves_body s) (2 * suc k) 0
   unfolding key_at

@@ -107,7 +107,7 @@ module _ (m : List Bool) (old : ArrayVec ℕ) (t : ℕ) (w : Queued (queue_of m 
   one_more =
       count_more (marked m) (marked (set m t true)) t most_positions h f mark_here mark_there ∙ ap (λ k. k + 1) (sym w.number)
 
-  join_room : length old.items < most_positions
+  pub join_room : length old.items < most_positions
   join_room = omega (arith, one_more, count_le (marked (set m t true)) most_positions)
 
   mark_stays : (r : ℕ) → marked m r ≡ true → marked (set m t true) r ≡ true
@@ -245,7 +245,7 @@ pub ruleset lining = (rules, lines_start, lines_more, lines_done)
 
 -- one move of either side
 
-next_joined : (g : List (List ℕ)) (m f : List ℕ) (a q i e : ℕ) {u v w : Queue} → Grown (by_action_in g q a) u v
+pub next_joined : (g : List (List ℕ)) (m f : List ℕ) (a q i e : ℕ) {u v w : Queue} → Grown (by_action_in g q a) u v
     → i ≡ get_or f q 0 → e ≡ get_or f (q + 1) 0 → Grown (by_line m i e) v w → Grown (by_move_in g m f a q) u w
 unfolding by_move_in
 next_joined g m f a q i e x h k y =
@@ -254,7 +254,7 @@ next_joined g m f a q i e x h k y =
 
 -- the search
 
-queue_few : {w : Queue} → Queued w → length w.entries.items ≤ most_positions
+pub queue_few : {w : Queue} → Queued w → length w.entries.items ≤ most_positions
 queue_few {w} h = omega (arith, h.number, count_le (marked w.marks) most_positions)
 
 -- the queue's positions lie on plays, the start is one, and the moves from the first n have been followed

@@ -1,5 +1,5 @@
 -- The masks, as the code of src/masks.rt makes them. Assumes nothing.
-use Prim.Native.Nat.{ℕ, zero, suc, ◌+◌, ◌-◌, ◌*◌, ◌/◌, ◌%◌, ◌^◌, ◌≤◌, ◌<◌}
+use Prim.Native.Nat.{ℕ, ◌+◌, ◌-◌, ◌*◌, ◌/◌, ◌%◌, ◌^◌, ◌≤◌, ◌<◌}
 use mathlib.Core.Path.{◌≡◌, refl, sym, ◌∙◌, ap}
 use mathlib.Core.Bool.{Bool, true, false, not, cond}
 use mathlib.Core.List.{List}
@@ -16,7 +16,7 @@ use Rattle.theory.specs.Fold.{both}
 use Rattle.theory.specs.Rounds.{Arena, spoilt_by, kept_by, mask_below}
 use Rattle.theory.specs.Table.{bit}
 use Rattle.theory.proofs.Fold.{both_none, both_second}
-use Rattle.theory.proofs.Masks.{mask_next, mask_lt, full_bit}
+use Rattle.theory.proofs.Masks.{mask_next, mask_lt, mask_same, full_bit}
 use Rattle.walk.specs.declared.level.Level.{Level}
 use Rattle.walk.specs.code.Levels.{arena_of}
 use Rattle.sheet.specs.code.Arrays.{view_of}
@@ -63,11 +63,6 @@ module _ (p : ℕ → Bool) (c : ℕ) {a v x : ℕ} {b : Bool} (h : c < a) (l : 
       let o : 2 ^ (c + 1) ≤ 2 ^ most_actions = pow_mono j in
       let m = mask_more in
       record { fits = omega arith }
-
-mask_same : (p q : ℕ → Bool) (n : ℕ) → ((c : ℕ) → c < n → p c ≡ q c) → mask_below p n ≡ mask_below q n
-unfolding mask_below
-mask_same p q zero f = refl
-mask_same p q (suc n) f = rw (mask_same p q n (λ c h. f c (omega arith)), f n (omega arith))
 
 -- the mask of a node
 

@@ -11,10 +11,10 @@ use region::words::Kept;
 // Where the search stopped: whether the asked delay wins, the delay whose ranks stand, and the number of its rounds. wins is a flag
 // and no Result: delay and rounds are told in either case.
 #[derive(Clone, Copy)]
-pub(crate) struct Stop {
-    pub(crate) wins: bool,
-    pub(crate) delay: u8,
-    pub(crate) rounds: u16,
+pub struct Stop {
+    pub wins: bool,
+    pub delay: u8,
+    pub rounds: u16,
 }
 
 // The chains are the game's own, for all delays.

@@ -5,14 +5,12 @@ ghost use Rattle.solver.specs.code.Sweep.{index};
 ghost use Rattle.solver.specs.code.Views.{IndexOf};
 
 use crate::chain::Chain;
+use crate::spread::CELLS;
 use region::arrays::GameArrays;
 use sheet::form::byte;
 use sheet::grid::{Grid, target};
-use sheet::limits::{ABSENT, MOST_MOVES, ROW, ROWS};
+use sheet::limits::{ABSENT, MOST_MOVES, ROW};
 use sheet::moves::line_count;
-
-// The cells of the grid.
-pub(crate) const CELLS: usize = ROWS * ROW;
 
 // A game's moves, as the U body, and the chains of its lines and of the grid's cells.
 #[derive(Clone, Copy)]

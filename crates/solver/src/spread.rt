@@ -9,16 +9,19 @@ use crate::index::Index;
 use crate::mark::Worklist;
 use crate::sweep::Round;
 use sheet::form::byte;
-use sheet::limits::ROW;
+use sheet::limits::{ROW, ROWS};
+
+// The cells of the grid.
+pub const CELLS: usize = ROWS * ROW;
 
 // What falls with a node in a round: an action, chosen where a word's younger actions are rest; the node's word is both. The word of
 // a node before is its oldest action times younger, plus rest.
 #[derive(Clone, Copy)]
-pub(crate) struct Spot {
-    pub(crate) round: Round,
-    pub(crate) word: usize,
-    pub(crate) rest: usize,
-    pub(crate) action: u8,
+pub struct Spot {
+    pub round: Round,
+    pub word: usize,
+    pub rest: usize,
+    pub action: u8,
     ghost fits: { Spotted (spot round.n round.level.words round.younger round.level.actions word rest action) },
 }
 

@@ -11,10 +11,10 @@ use walk::level::Level;
 
 // The nodes of rank n are swept, at a level with so many younger words.
 #[derive(Clone, Copy)]
-pub(crate) struct Round {
-    pub(crate) level: Level,
-    pub(crate) younger: usize,
-    pub(crate) n: u16,
+pub struct Round {
+    pub level: Level,
+    pub younger: usize,
+    pub n: u16,
     ghost fits: { Fitted level younger },
     ghost few: { n < largest16 },
 }

@@ -50,7 +50,7 @@ decimal_more n h =
 
 -- the digits that the library prints
 
-glyph_digit : (d : ℕ) → d < 10 → 48 + d ≡ glyph d
+pub glyph_digit : (d : ℕ) → d < 10 → 48 + d ≡ glyph d
 unfolding glyph
 glyph_digit d h = simp (lt-ltb d 10 h)
 
@@ -59,6 +59,12 @@ decimal_is =
     decimal_by_steps (λ n ds. ds ≡ decimal_of n)
     (λ n h. ap (λ u. u ∷ []) (glyph_digit n h) ∙ sym (decimal_one n h))
     (λ n ds h e. rw (decimal_more n h, e, glyph_digit (n % 10) (omega arith)))
+
+-- bytes
+
+pub bytes_two : (n : ℕ) → bytes_of 2 n ≡ n % 256 ∷ n / 256 % 256 ∷ []
+unfolding bytes_of
+bytes_two n = refl
 
 -- lengths
 

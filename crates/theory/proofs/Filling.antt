@@ -4,7 +4,7 @@ use mathlib.Core.Path.{◌≡◌, sym, ◌∙◌, ap}
 use mathlib.Core.List.{List, ◌++◌, append-nil}
 use native.Mathlib.Omega.{arith}
 use native.Mathlib.Numerals.{add-one}
-use lib.ListN.{length, get_or, drop, set, drop_of_length-le, get_or-append}
+use lib.ListN.{length, get_or, drop, set, length-append, length-drop, drop_of_length-le, get_or-append}
 use lib.Seq.{get_or-drop, get_or-append-add, drop-cons, set_at, append_snoc, set-get_or}
 use Rattle.theory.specs.Fold.{tabulate}
 use Rattle.theory.specs.Buffer.{over}
@@ -15,6 +15,11 @@ unfoldable pub filled : {A : Type 0} → (ℕ → A) → ℕ → List A → List
 filled f k l = tabulate f 0 k ++ drop k l
 
 module _ {A : Type 0} (f : ℕ → A) (l : List A) where
+  pub length_filled : (k : ℕ) → k ≤ length l → length (filled f k l) ≡ length l
+  unfolding filled
+  length_filled k h =
+      rw (length-append (tabulate f 0 k) (drop k l), length_tabulate f 0 k, length-drop k l) (omega arith)
+
   pub filled_none : l ≡ filled f 0 l
   unfolding filled
   filled_none = rw (tabulate_zero f 0)

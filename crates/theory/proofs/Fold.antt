@@ -176,6 +176,13 @@ all_fails p i n h e =
 pub all_again : (p : ℕ → Bool) (i : ℕ) {r : Bool} → all_below p i ≡ true → r ≡ p i → r ≡ true → all_below p (i + 1) ≡ true
 all_again p i e q t = rw (add-one i, all_suc p i) (both_true _ _ e (sym q ∙ t))
 
+-- the same where the branch is on `!r`, and the test that failed
+pub all_next : (p : ℕ → Bool) (i : ℕ) {r : Bool} → all_below p i ≡ true → r ≡ p i → not r ≡ false → all_below p (i + 1) ≡ true
+all_next p i {r} e q t = all_again p i e q (not-false r t)
+
+pub all_stopped : (p : ℕ → Bool) (i n : ℕ) {r : Bool} → i < n → r ≡ p i → not r ≡ true → all_below p n ≡ false
+all_stopped p i n h q t = all_fails p i n h (failed q t)
+
 -- a shorter range that fails fails the longer one
 pub all_short : (p : ℕ → Bool) {c n : ℕ} → c ≤ n → all_below p c ≡ false → all_below p n ≡ false
 all_short p {c} {n} l e =
@@ -245,6 +252,16 @@ first_stopped p {i} {n} e h =
     ⊎_elim
     (λ (t : all_below p n ≡ true). let q : i ≡ n = e ∙ rw (first_suc p n, t) in absurd (omega arith))
     (λ (f : all_below p n ≡ false). (f, e ∙ rw (first_suc p n, f)))
+    (bool (all_below p n))
+
+pub first_ended : (p : ℕ → Bool) {i n : ℕ} → i ≡ first_not p (suc n) → n ≤ i → all_below p n ≡ true
+first_ended p {i} {n} e h =
+    ⊎_elim
+    (λ (t : all_below p n ≡ true). t)
+    (λ (f : all_below p n ≡ false).
+    let q : i ≡ first_not p n = e ∙ rw (first_suc p n, f) in
+    let b = (first p n f).below in
+    absurd (omega arith))
     (bool (all_below p n))
 
 -- tests that agree below n find the same
@@ -384,6 +401,13 @@ any_some p (suc n) e =
 pub any_below_none : (p : ℕ → Bool) (n : ℕ) → any_below p n ≡ false → (i : ℕ) → i < n → p i ≡ false
 any_below_none p n e i h =
     ⊎_elim (λ (t : p i ≡ true). absurd (not_both (any_holds p i n h t) e)) (λ f. f) (bool (p i))
+
+-- one index more of a search that has found nothing
+pub any_again : (p : ℕ → Bool) (i : ℕ) {r : Bool} → any_below p i ≡ false → r ≡ p i → r ≡ false → any_below p (i + 1) ≡ false
+any_again p i e q t = rw (add-one i, any_suc p i) (either_none _ _ e (sym q ∙ t))
+
+pub any_done : (p : ℕ → Bool) {k n : ℕ} → k ≤ n → n ≤ k → any_below p k ≡ false → any_below p n ≡ false
+any_done p {k} {n} l g e = let q : n ≡ k = omega arith in rw q e
 
 -- some element of a list
 

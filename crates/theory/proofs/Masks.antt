@@ -129,6 +129,10 @@ mask_bit p (suc n) (suc c) h = rw (mask_front, next_bit) (mask_bit (λ k. p (suc
 pub mask_high : (p : ℕ → Bool) (n c : ℕ) → n ≤ c → bit (mask_below p n) c ≡ false
 mask_high p n c h = bit_high (mask_below p n) n c (mask_lt p n) h
 
+pub mask_same : (p q : ℕ → Bool) (n : ℕ) → ((c : ℕ) → c < n → p c ≡ q c) → mask_below p n ≡ mask_below q n
+mask_same p q n f =
+    bits_ext n _ _ (mask_lt p n) (mask_lt q n) (λ c h. mask_bit p n c h ∙ f c h ∙ sym (mask_bit q n c h))
+
 -- the mask of all actions
 
 full_mask : (n : ℕ) → mask_below (λ c. true) n ≡ 2 ^ n - 1

@@ -77,6 +77,10 @@ module _ {A : ℕ} (d : ℕ) (σ : Strategy A d) where
   pub rest : Play → ℕ
   rest π = encode A (λ k. pending d σ π (suc k)) (d / 2)
 
+  pub rest_lt : (π : Play) → rest π < A ^ (d / 2)
+  unfolding rest
+  rest_lt π = encode_lt A (λ k. pending d σ π (suc k)) (d / 2) (λ i h. pending_lt π (suc i))
+
   -- at a turn's end the rest is the pending word
   pub rest_is : {π π' : Play} → Advance π π' → word d σ π' ≡ rest π
   unfolding word rest pending

@@ -50,6 +50,9 @@ pub digit_newest : (A n v i : ℕ) → n ≤ i → digit A (suc n) v i ≡ v % A
 unfolding digit
 digit_newest A n v i h = rw (le-ltb i n h)
 
+pub digit_last : (A n v : ℕ) → digit A (suc n) v n ≡ v % A
+digit_last A n v = digit_newest A n v n (omega arith)
+
 -- the word without its newest action has the same actions
 pub digit_shorter : (A n v i : ℕ) → i < n → digit A (suc n) v i ≡ digit A n (v / A) i
 unfolding digit

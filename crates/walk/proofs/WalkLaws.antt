@@ -128,7 +128,7 @@ module _ (p : List ℕ) (g : List (List ℕ)) (u f : List ℕ) (l : Level) (fall
   by_parity q j false o = even_spoilt (j / l.words) (j % l.words) _ o
 
   -- theory's `spoilt_by`, by the choice that the code makes
-  chosen : (k c : ℕ) {r : Option Choice} → r ≡ choice_at p g f l (k / l.words) ((k % l.words) * l.actions + c)
+  pub chosen : (k c : ℕ) {r : Option Choice} → r ≡ choice_at p g f l (k / l.words) ((k % l.words) * l.actions + c)
       → spoilt_by (arena_of p g u f l) fallen k c ≡ spoilt_with p g u l fallen r
   unfolding spoilt_by arena_of step view_of choice_at
   chosen k c {r} e =
@@ -162,7 +162,7 @@ module _ (p : List ℕ) (g : List (List ℕ)) (u f : List ℕ) (l : Level) (fall
   pub walk_blocked : (c : ℕ) → all_below S c ≡ true → None ≡ choice c → all_below S (c + 1) ≡ true
   walk_blocked c e h = all_again S c e (spoilt_blocked c h) refl
 
-  walk_open : (c : ℕ) (x : Choice) → all_below S c ≡ true → Some x ≡ choice c → all_below S (c + 1) ≡ is_some (last_of x)
+  pub walk_open : (c : ℕ) (x : Choice) → all_below S c ≡ true → Some x ≡ choice c → all_below S (c + 1) ≡ is_some (last_of x)
   walk_open c x e h = rw (add-one c, all_suc S c) (both_second _ _ e ∙ sym (spoilt_open c h))
 
   -- a spoiling line ends an action, and an action without one ends the walk
