@@ -50,6 +50,9 @@ fn hold(grid: &Grid, actions: usize) -> Grid
 pub fn grid_for(c: &[u8], actions: usize, holding: bool) -> Grid
     ensures { result ≡ held_grid holding actions c.now }
 {
-    let grid = grid_of(c);
-    if holding { hold(&grid, actions) } else { grid }
+    if holding {
+        let grid = grid_of(c);
+        return hold(&grid, actions);
+    }
+    grid_of(c)
 }

@@ -10,7 +10,7 @@ use lib.Dec.{leb, ltb}
 use lib.ListN.{length, get_or, set, replicate}
 use borrow.Author.Tests.{le-leb, lt-leb, lt-ltb, eq-eqb, ne_eqb, leb-false}
 use Rattle.theory.specs.Fold.{both, either, all_below, any_below, tabulate}
-use Rattle.theory.proofs.Fold.{all_same, all_at, all_below_lem, all_fails, same_test, either_right, either_first, either_second, any_suc, both_second, both_true, both_none, both_left, both_right}
+use Rattle.theory.proofs.Fold.{all_same, all_at, all_below_lem, same_test, either_right, either_first, any_suc, both_second, both_true, both_left, both_right}
 use Rattle.theory.proofs.Fold.{get_d_tabulate, tabulate_set, bool, below?}
 use Rattle.std.specs.Prelude.{Option, Some, None, is_some}
 use Rattle.sheet.specs.Kinds.{kind_of, kind_at, is_known, known_at}
@@ -19,10 +19,9 @@ use Rattle.sheet.proofs.ChunkLaws.{chunk_entry}
 use Rattle.std.specs.Simd.{first_chunks}
 use Rattle.std.proofs.lemmas.List.{get_or_default}
 use Rattle.sheet.specs.Kinds.{controller_at, environment_at}
-use Rattle.std.specs.List.{IsAllAdjacentAnswer}
 use Rattle.reader.specs.Checks.{key_at, rises_at, target_ok, targets_ok, move_ok, moves_ok, begins_at, has_line, leaves_at, all_leave, positions_ok, size_ok}
 use Rattle.sheet.specs.Size.{nodes_of}
-use Rattle.reader.specs.code.Steps.{leaves_by}
+use Rattle.reader.specs.code.Steps.{follows, target_line, move_line, leaves_by}
 use Rattle.sheet.specs.code.Steps.{power_to, most_power}
 use Rattle.sheet.specs.Limits.{most_positions, most_moves, most_nodes}
 use mathlib.Core.Logic.{⊎_elim}
@@ -43,48 +42,6 @@ module _ (p : List ℕ) where
   unfolding positions_ok
   positions_all l m e = e ∙ sym (both_second _ _ (le-leb _ _ l) ∙ both_second _ _ (le-leb _ _ m))
 
--- checks 4 and 5: lines of w bytes as arrays. Two are in order by their keys, and what holds of each is p by index
-
-abbrev pub key_below : List ℕ → List ℕ → Bool
-key_below x y = ltb (key_at x 0) (key_at y 0)
-
-module _ (w : ℕ) (b : List ℕ) (xs : List (List ℕ)) (whole : xs ≡ first_chunks w (length b / w) b) (size : length xs ≡ length b / w) where
-  line_entry : (k j : ℕ) → k < length xs → j < w → get_or (get_or xs k []) j 0 ≡ get_or b (w * k + j) 0
-  line_entry k j h l = rw whole (chunk_entry w (length b / w) b k j (w * k + j) (omega (arith, size)) l refl)
-
-  module _ (n : 1 < w) where
-    line_key : (k : ℕ) → k < length xs → key_at (get_or xs k []) 0 ≡ key_at b (w * k)
-    unfolding key_at
-    line_key k h =
-        let z : w * k + 0 ≡ w * k = omega arith in
-        let first : get_or (get_or xs k []) 0 0 ≡ get_or b (w * k) 0 = line_entry k 0 h (omega arith) ∙ ap (λ i. get_or b i 0) z in
-        rw (first, line_entry k 1 h n)
-
-    line_rises : (k : ℕ) → k + 1 < length xs → key_below (get_or xs k []) (get_or xs (k + 1) []) ≡ rises_at w b (k + 1)
-    unfolding rises_at
-    line_rises k h =
-        let z : k + 1 - 1 ≡ k = omega arith in
-        rw (line_key k (omega arith), line_key (k + 1) h, z) (sym (either_second _ _ (ne_eqb _ _ (λ e. omega arith))))
-
-    lines_rise : (r : Bool) → IsAllAdjacentAnswer (λ x y t. t ≡ key_below x y) xs r → r ≡ all_below (rises_at w b) (length b / w)
-    unfolding rises_at either
-    lines_rise true h = sym (all_below_lem (rises_at w b) (length b / w) at)
-      where
-        at : (k : ℕ) → k < length b / w → rises_at w b k ≡ true
-        at zero l = refl
-        at (suc k) l =
-            let z : k + 1 ≡ suc k = omega arith in
-            ap (rises_at w b) (sym z) ∙ sym (h k [] (omega (arith, size)) ∙ line_rises k (omega (arith, size)))
-    lines_rise false h = sym (all_fails (rises_at w b) (h.0 + 1) (length b / w) (omega (arith, size, h.1)) (sym (h.2 [] ∙ line_rises h.0 h.1)))
-
-    module _ (p : ℕ → Bool) {t : Bool} (ok : both (all_below (rises_at w b) (length b / w)) (all_below p (length b / w)) ≡ t) {r : Bool}
-        (order : IsAllAdjacentAnswer (λ x y t. t ≡ key_below x y) xs r) where
-      pub unordered : r ≡ false → r ≡ t
-      unordered f = f ∙ sym (both_none _ _ (sym (lines_rise r order) ∙ f)) ∙ ok
-
-      pub ordered : r ≡ true → {o : Bool} → o ≡ all_below p (length xs) → o ≡ t
-      ordered f e = e ∙ ap (all_below p) size ∙ sym (both_second _ _ (sym (lines_rise r order) ∙ f)) ∙ ok
-
 all_both : (p q t : ℕ → Bool) (n : ℕ) → ((k : ℕ) → both (p k) (q k) ≡ t k) → both (all_below p n) (all_below q n) ≡ all_below t n
 all_both p q t n same =
     same_test _ _
@@ -93,6 +50,39 @@ all_both p q t n same =
     both_true _ _
     (all_below_lem p n (λ k h. both_left _ _ (same k ∙ all_at t n e k h)))
     (all_below_lem q n (λ k h. both_right _ _ (same k ∙ all_at t n e k h))))
+
+-- checks 4 and 5: lines of w bytes as arrays, each in order after the one before it
+
+module _ (w : ℕ) (b : List ℕ) (xs : List (List ℕ)) (whole : xs ≡ first_chunks w (length b / w) b) (size : length xs ≡ length b / w) where
+  line_entry : (k j : ℕ) → k < length xs → j < w → get_or (get_or xs k []) j 0 ≡ get_or b (w * k + j) 0
+  line_entry k j h l = rw whole (chunk_entry w (length b / w) b k j (w * k + j) (omega (arith, size)) l refl)
+
+  line_key : 1 < w → (k : ℕ) → k < length xs → key_at (get_or xs k []) 0 ≡ key_at b (w * k)
+  unfolding key_at
+  line_key n k h =
+      let z : w * k + 0 ≡ w * k = omega arith in
+      let first : get_or (get_or xs k []) 0 0 ≡ get_or b (w * k) 0 = line_entry k 0 h (omega arith) ∙ ap (λ i. get_or b i 0) z in
+      rw (first, line_entry k 1 h n)
+
+  line_follows : 1 < w → (k : ℕ) → k < length xs → follows xs k ≡ rises_at w b k
+  unfolding rises_at either
+  line_follows n zero h = refl
+  line_follows n (suc k) h =
+      let z : suc k - 1 ≡ k = omega arith in
+      rw (z, line_key n k (omega arith), line_key n (suc k) h) refl
+
+  -- all lines are right if all follow and each goes from side to side, p being that by index
+
+  pub lines_right : 1 < w → (p : ℕ → Bool) (q : List ℕ → Bool) {t : Bool} → ((k : ℕ) → k < length xs → q (get_or xs k []) ≡ p k)
+      → both (all_below (rises_at w b) (length b / w)) (all_below p (length b / w)) ≡ t
+      → {r : Bool} → r ≡ all_below (λ k. both (follows xs k) (q (get_or xs k []))) (length xs) → r ≡ t
+  lines_right n p q same ok e =
+      e
+      ∙ all_same (λ k. both (follows xs k) (q (get_or xs k []))) (λ k. both (rises_at w b k) (p k)) (length xs)
+      (λ k h. let y = line_follows n k h in rw (y, same k h) refl)
+      ∙ ap (all_below (λ k. both (rises_at w b k) (p k))) size
+      ∙ sym (all_both (rises_at w b) p (λ k. both (rises_at w b k) (p k)) (length b / w) (λ k. refl))
+      ∙ ok
 
 both_swap : (a b : Bool) → both a b ≡ both b a
 unfolding both
@@ -113,15 +103,12 @@ module _ (p : List ℕ) (a : ℕ) where
   abbrev pub target_sides : ℕ → ℕ → ℕ → Bool
   target_sides from action to = both (controller_at p from) (both (ltb action a) (environment_at p to))
 
-  abbrev pub target_line : List ℕ → Bool
-  target_line x = target_sides (get_or x 0 0) (get_or x 1 0) (get_or x 2 0)
-
   module _ (c : List ℕ) where
     abbrev pub target_sided : ℕ → Bool
     target_sided k = target_sides (get_or c (3 * k) 0) (get_or c (3 * k + 1) 0) (get_or c (3 * k + 2) 0)
 
     pub target_same : (xs : List (List ℕ)) → xs ≡ first_chunks 3 (length c / 3) c → length xs ≡ length c / 3 → (k : ℕ) → k < length xs
-        → target_line (get_or xs k []) ≡ target_sided k
+        → target_line p a (get_or xs k []) ≡ target_sided k
     target_same xs whole size k h =
         let z : 3 * k + 0 ≡ 3 * k = omega arith in
         let at = line_entry 3 c xs whole size k in
@@ -140,15 +127,12 @@ module _ (p : List ℕ) where
   abbrev pub move_sides : ℕ → ℕ → Bool
   move_sides from to = both (environment_at p from) (controller_at p to)
 
-  abbrev pub move_line : List ℕ → Bool
-  move_line x = move_sides (get_or x 0 0) (get_or x 1 0)
-
   module _ (u : List ℕ) where
     abbrev pub move_sided : ℕ → Bool
     move_sided k = move_sides (get_or u (2 * k) 0) (get_or u (2 * k + 1) 0)
 
     pub move_same : (xs : List (List ℕ)) → xs ≡ first_chunks 2 (length u / 2) u → length xs ≡ length u / 2 → (k : ℕ) → k < length xs
-        → move_line (get_or xs k []) ≡ move_sided k
+        → move_line p (get_or xs k []) ≡ move_sided k
     move_same xs whole size k h =
         let z : 2 * k + 0 ≡ 2 * k = omega arith in
         let at = line_entry 2 u xs whole size k in

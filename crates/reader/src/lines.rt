@@ -1,9 +1,9 @@
 // The lines of the C and U bodies: checks 4 to 6.
-ghost use Rattle.std.specs.Prelude.{◌≡◌, ◌/◌, ◌≤◌, ◌<◌, ltb, length};
-ghost use Rattle.theory.specs.Fold.{tabulate};
+ghost use Rattle.std.specs.Prelude.{◌≡◌, [], ◌/◌, ◌≤◌, ◌<◌, ltb, length, get_or};
+ghost use Rattle.theory.specs.Fold.{both, tabulate};
 ghost use Rattle.sheet.specs.Limits.{most_positions};
 ghost use Rattle.reader.specs.Checks.{key_at, targets_ok, moves_ok, has_line, all_leave};
-ghost use Rattle.reader.specs.code.Steps.{leaves_by};
+ghost use Rattle.reader.specs.code.Steps.{follows, target_line, move_line, leaves_by};
 
 use sheet::form::byte;
 use sheet::kinds::{controller_at, environment_at};
@@ -24,7 +24,29 @@ fn rises(line: &[u8], next: &[u8]) -> bool
     key(line) < key(next)
 }
 
-// Check 4.
+// Has line k a larger key than the line before it?
+#[tactic(auto, unfolding(theory::specs::Fold::either))]
+fn follows<const W: usize>(lines: &[[u8; W]], k: usize) -> bool
+    requires { k < length lines.now }
+    ensures { result ≡ follows lines.now k }
+{
+    k == 0 || rises(&lines[k - 1], &lines[k])
+}
+
+// Is line k of the C body right?
+#[tactic(auto, unfolding(theory::specs::Fold::both))]
+fn target_ok(p: &[u8], actions: u8, lines: &[[u8; 3]], k: usize) -> bool
+    requires { k < length lines.now }
+    ensures { result ≡ both (follows lines.now k) (target_line p.now actions (get_or lines.now k [])) }
+{
+    let [from, action, to] = lines[k];
+    follows(lines, k)
+        && controller_at(p, usize::from(from))
+        && action < actions
+        && environment_at(p, usize::from(to))
+}
+
+// Check 4. One pass, which ends at the first line that is wrong: `is_sorted_by` would look at all keys before.
 #[tactic(auto, unfolding(crate::specs::Checks::targets_ok, theory::specs::Fold::both))]
 pub(crate) fn targets_ok(p: &[u8], actions: u8, c: &[u8]) -> bool
     ensures { result ≡ targets_ok p.now actions c.now }
@@ -32,12 +54,17 @@ pub(crate) fn targets_ok(p: &[u8], actions: u8, c: &[u8]) -> bool
     let (lines, []) = c.as_chunks::<3>() else {
         return false;
     };
-    lines.is_sorted_by(|line, next| rises(line, next))
-        && lines.iter().all(|&[from, action, to]| {
-            controller_at(p, usize::from(from))
-                && action < actions
-                && environment_at(p, usize::from(to))
-        })
+    (0..lines.len()).all(|k| target_ok(p, actions, lines, k))
+}
+
+// Is line k of the U body right?
+#[tactic(auto, unfolding(theory::specs::Fold::both))]
+fn move_ok(p: &[u8], lines: &[[u8; 2]], k: usize) -> bool
+    requires { k < length lines.now }
+    ensures { result ≡ both (follows lines.now k) (move_line p.now (get_or lines.now k [])) }
+{
+    let [from, to] = lines[k];
+    follows(lines, k) && environment_at(p, usize::from(from)) && controller_at(p, usize::from(to))
 }
 
 // Check 5. Not one generic function with check 4: that was tried, and its proof did not close.
@@ -47,10 +74,7 @@ pub(crate) fn moves_ok(p: &[u8], u: &[u8]) -> bool
 {
     match u.as_chunks::<2>() {
         (lines, []) if lines.len() <= MOST_MOVES => {
-            lines.is_sorted_by(|line, next| rises(line, next))
-                && lines.iter().all(|&[from, to]| {
-                    environment_at(p, usize::from(from)) && controller_at(p, usize::from(to))
-                })
+            (0..lines.len()).all(|k| move_ok(p, lines, k))
         }
         _ => false,
     }

@@ -20,7 +20,12 @@ use Rattle.theory.proofs.Masks.{mask_next, mask_lt, mask_same, full_bit}
 use Rattle.walk.specs.declared.level.Level.{Level}
 use Rattle.walk.specs.code.Levels.{arena_of}
 use Rattle.sheet.specs.code.Arrays.{view_of}
-use Rattle.walk.specs.code.Nodes.{Sized}
+use Rattle.walk.specs.code.Nodes.{Sized, is_node}
+use Rattle.walk.specs.code.Arenas.{spoilt}
+use Rattle.walk.specs.declared.arena.Fallen.{Fallen}
+use Rattle.walk.specs.declared.sized.SizedArena.{SizedArena}
+use Rattle.walk.specs.declared.sized.SizedNode.{SizedNode}
+use Rattle.std.specs.Prelude.{Option, Some, None, IfSome, is_some}
 use Rattle.walk.specs.code.Walks.{fallen_by, spoilt_answer}
 use Rattle.walk.proofs.NodeLaws.{at_action, fitted}
 use Rattle.theory.proofs.Filling.{filled, filled_none, filled_more, filled_done}
@@ -37,6 +42,17 @@ bit_in m c e = sym (both_second _ _ (eq-eqb _ _ e))
 pub bit_out : (m c : ℕ) (b : Bool) → (m / 2 ^ c % 2 ≡ 1 → ⊥) → eqb (m / 2 ^ c % 2) 1 ≡ both (bit m c) b
 unfolding bit
 bit_out m c b n = let e = ne_eqb (m / 2 ^ c % 2) 1 n in e ∙ sym (both_none _ _ e)
+
+-- whether an action is spoilt at a node, by the node taken apart, if it is there
+
+module _ (a : SizedArena) (f : Fallen) (k c : ℕ) where
+  pub spoilt_here : {o : Option SizedNode} {x : SizedNode} → o ≡ Some x → IfSome o (λ x. (x.sized.now ≡ a) × (x.k ≡ k))
+      → spoilt x.sized.now.arena.now f x.k c ≡ spoilt a.arena.now f k c
+  spoilt_here {o} {x} e h = let y = rw e at h in rw (y.0, y.1) refl
+
+  pub spoilt_nowhere : {o : Option SizedNode} → o ≡ None → is_some o ≡ is_node (length a.arena.now.positions.now) a.arena.now.level k
+      → true ≡ not (spoilt a.arena.now f k c)
+  spoilt_nowhere {o} e h = ap not (sym (both_none _ _ (sym h ∙ ap is_some e)))
 
 -- the mask of the actions below c that pass a test, and the next one's bit, as code shifts it
 

@@ -8,15 +8,22 @@ use walk::arena::{Arena, Fallen};
 use walk::sized::SizedArena;
 
 // The part of a mask whose actions are not spoilt at node k; nothing is spoilt where there is no such node.
+#[inline(always)]
 #[tactic(auto, using(theory::proofs::Masks::mask_first, theory::proofs::Masks::mask_done))]
 pub fn unspoilt_part(sized: &SizedArena, fallen: &Fallen, k: usize, mask: usize) -> usize
     ensures { result ≡ unspoilt_part sized.now.arena.now fallen.now k mask }
 {
+    let node = sized.node(k);
     // not `fold`: that each sum fits is the loop's invariant. Not by `|` either: of each bit it would have to be shown that it is clear
     let mut part: usize = 0;
     for c in 0..sized.arena.level.actions {
         let left = mask >> c;
-        let stays = left % 2 == 1 && !sized.arena.spoilt(fallen, k, c);
+        // `match`, not `is_some_and`: of a closure that asks `spoilt` the proof learns nothing
+        let stays = left % 2 == 1
+            && match &node {
+                Some(node) => !node.spoilt(fallen, c),
+                None => true,
+            };
         part += usize::from(stays) << c;
     }
     part

@@ -188,19 +188,22 @@ pub record Taken (s : List ℕ) (l : Layout) (a : GameArrays) (v : Level) : Type
   pub moves : a.moves.now ≡ part_at s l.moves
   pub level : v ≡ level_to (length a.positions.now) a.layout.start a.layout.actions l.delay
 
-pub taken : {s : List ℕ} {rd : Result Layout Refusal} {l : Layout} {a : GameArrays} {v : Level} → answer_of rd ≡ read_answer s → rd ≡ Ok l
-    → a.layout ≡ l → a.positions.now ≡ part_at s l.positions → a.grid ≡ grid_at s l → a.moves.now ≡ part_at s l.moves
-    → v ≡ level_to (length a.positions.now) a.layout.start a.layout.actions l.delay → Taken s l a v
-taken {s} {rd} {l} e o a b c d f = record { read = read_accepted s rd e l o; layout = a; positions = b; grid = c; moves = d; level = f }
+-- the level is worked out from the P body, before the arrays
+pub taken : {s p : List ℕ} {rd : Result Layout Refusal} {l : Layout} {a : GameArrays} {v : Level} → answer_of rd ≡ read_answer s → rd ≡ Ok l
+    → p ≡ part_at s l.positions → v ≡ level_to (length p) l.start l.actions l.delay
+    → a.layout ≡ l → a.positions.now ≡ part_at s l.positions → a.grid ≡ grid_at s l → a.moves.now ≡ part_at s l.moves → Taken s l a v
+taken {s} {p} {rd} {l} e o w f a b c d =
+    record { read = read_accepted s rd e l o; layout = a; positions = b; grid = c; moves = d; level = rw (a, b, ← w) f }
 
-module _ (s : List ℕ) (l : Layout) (a : GameArrays) (v : Level) (t : Taken s l a v) where
-  nodes_made : v.nodes ≡ nodes_of (length a.positions.now) l.actions l.delay
-  nodes_made = ap (λ (x : Level). x.nodes) (is_level s (Ok l) (sym t.read) l refl a.positions.now t.positions v (rw t.layout at t.level))
+module _ (s : List ℕ) (l : Layout) (read : read_answer s ≡ accepted l) (p : List ℕ) (body : p ≡ part_at s l.positions) (v : Level)
+    (level : v ≡ level_to (length p) l.start l.actions l.delay) where
+  nodes_by : v.nodes ≡ nodes_of (length p) l.actions l.delay
+  nodes_by = ap (λ (x : Level). x.nodes) (is_level s (Ok l) (sym read) l refl p body v level)
 
   nodes_read : v.nodes ≡ (arena (game_of s) (delay_of s)).nodes
   nodes_read =
-      let c = carries s l t.read in
-      nodes_made ∙ rw (t.positions ∙ c.positions_part, c.actions, c.delay) (sym (arena_nodes s (delay_of s)))
+      let c = carries s l read in
+      nodes_by ∙ rw (body ∙ c.positions_part, c.actions, c.delay) (sym (arena_nodes s (delay_of s)))
 
   abbrev owed : ℕ
   owed = (arena (game_of s) (delay_of s)).nodes
@@ -215,15 +218,23 @@ module _ (s : List ℕ) (l : Layout) (a : GameArrays) (v : Level) (t : Taken s l
 
   pub refuses_short : (m k : ℕ) {room : ℕ} → room ≡ min m k → room < v.nodes → refused 8 ≡ solve_answer s m k
   unfolding solve_answer on_accepted
-  refuses_short m k e h = sym (rw t.read (check_failed _ 8 _ (short m k (omega (arith, e, h)))))
+  refuses_short m k e h = sym (rw read (check_failed _ 8 _ (short m k (omega (arith, e, h)))))
+
+  roomy_both : (m k : ℕ) {room : ℕ} → room ≡ min m k → v.nodes ≤ room → room_for m k ≡ true
+  roomy_both m k e h = let n = nodes_read in both_true _ _ (le-leb owed m (omega (arith, e))) (le-leb owed k (omega (arith, e)))
+
+module _ (s : List ℕ) (l : Layout) (a : GameArrays) (v : Level) (t : Taken s l a v) where
+  level_taken : v ≡ level_to (length a.positions.now) l.start l.actions l.delay
+  level_taken = rw t.layout at t.level
+
+  nodes_made : v.nodes ≡ nodes_of (length a.positions.now) l.actions l.delay
+  nodes_made = nodes_by s l t.read a.positions.now t.positions v level_taken
 
   -- both buffers have room
   module _ (m k : List ℕ) {room : ℕ} (er : room ≡ min (length m) (length k)) (roomy : v.nodes ≤ room) where
     solved : solve_answer s (length m) (length k) ≡ accepted (record { verdict = answer (game_of s) (delay_of s); layout = l })
     unfolding solve_answer on_accepted
-    solved =
-        let n = nodes_read in
-        rw t.read (check_passed _ 8 _ (both_true _ _ (le-leb owed (length m) (omega arith)) (le-leb owed (length k) (omega arith))))
+    solved = rw t.read (check_passed _ 8 _ (roomy_both s l t.read a.positions.now t.positions v level_taken (length m) (length k) er roomy))
 
     same_game : view_of a.positions.now a.grid a.moves.now a.firsts l.start l.actions ≡ game_of s
     same_game = view_read s (Ok l) (sym t.read) l refl a.positions.now t.positions a.grid a.moves.now a.firsts t.grid t.moves a.indexed

@@ -11,8 +11,10 @@ use crate::index::{Index, link_both};
 use crate::levels::mask_level;
 use reader::reading::{Layout, read};
 use region::arrays::GameArrays;
+use sheet::form::part;
 use sheet::refusal::Refusal;
 use walk::arena::Fallen;
+use walk::level::level_at;
 use walk::sized::SizedArena;
 
 // Losing: the least delay at which no strategy wins. The cases have document 01's names.
@@ -59,11 +61,14 @@ pub fn solve(sheet: &[u8], masks: &mut [u8], ranks: &mut [u16]) -> Result<Soluti
     let Ok(l) = reading else {
         return Err(reading.unwrap_err());
     };
-    let game = GameArrays::of(sheet, l);
+    // before the arrays are made: a caller with small areas pays for reading alone
+    let positions = part(sheet, l.positions);
+    let level = level_at(positions.len(), l.start, l.actions, l.delay);
     let room = masks.len().min(ranks.len());
-    if room < game.arena(l.delay).level.nodes {
+    if room < level.nodes {
         return Err(Refusal::Buffers);
     }
+    let game = GameArrays::of(sheet, l);
     let stop = fill(&game, masks, ranks);
     if stop.wins {
         return Ok(Solution::Winning(l));

@@ -23,9 +23,15 @@ impl Page<'_> {
     pub fn put_text(&mut self, text: &[u8])
         ensures { Puts self.old text.now self.new }
     {
+        // by a page of its own, so that the loop keeps the place in a register
+        let mut page = Page {
+            out: &mut *self.out,
+            at: self.at,
+        };
         for &byte in text {
-            self.put_byte(byte);
+            page.put_byte(byte);
         }
+        self.at = page.at;
     }
 
     // The lowest two bytes of a number, low byte first.

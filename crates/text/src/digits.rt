@@ -67,19 +67,31 @@ impl Page<'_> {
         if form.count == 0 {
             return self.put_byte(b'-');
         }
+        // by a page of its own, as put_text
+        let mut page = Page {
+            out: &mut *self.out,
+            at: self.at,
+        };
         for i in 0..form.count {
-            self.put_glyph(digit(form.actions, form.count, word, i));
+            page.put_glyph(digit(form.actions, form.count, word, i));
         }
+        self.at = page.at;
     }
 
     // The actions of a mask, rising.
     pub fn put_set(&mut self, actions: usize, mask: usize)
         ensures { Puts self.old (set_text actions mask) self.new }
     {
+        // by a page of its own, as put_text
+        let mut page = Page {
+            out: &mut *self.out,
+            at: self.at,
+        };
         for c in 0..actions {
             if has_action(mask, c) {
-                self.put_glyph(c);
+                page.put_glyph(c);
             }
         }
+        self.at = page.at;
     }
 }

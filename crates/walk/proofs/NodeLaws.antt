@@ -73,6 +73,9 @@ module _ (positions : ℕ) (l : Level) where
     pub at_node : {r b : Bool} → Sized positions l → k < l.nodes → r ≡ both (is_node positions l k) b → r ≡ b
     at_node s h e = e ∙ both_second _ _ (node_tested s h)
 
+    pub of_node : {r b : Bool} → Sized positions l → k < l.nodes → r ≡ b → r ≡ both (is_node positions l k) b
+    of_node s h e = e ∙ sym (both_second _ _ (node_tested s h))
+
     pub at_action : (c : ℕ) {r b : Bool} → Sized positions l → k < l.nodes → c < l.actions
         → r ≡ both (is_node positions l k) (both (ltb c l.actions) b) → r ≡ b
     at_action c s h a e = at_node s h e ∙ both_second _ _ (lt-ltb _ _ a)
@@ -82,3 +85,5 @@ pub filled_all : (f : ℕ → ℕ) (l : List ℕ) (k : ℕ) → k ≤ length l �
 filled_all f l k h g = filled_done f l k (length l) refl refl h g
 
 pub ruleset guarding = (rules, node_level, node_lt)
+
+pub ruleset guarded = (rules, of_node)

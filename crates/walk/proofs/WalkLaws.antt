@@ -185,6 +185,8 @@ pub node_small : {k m n p : ℕ} → k < n → n ≡ p * m → p ≤ most_positi
 node_small {k} {m} {n} {p} h e s z =
     let b : k / m < p = (div-lt_iff_lt-mul z).1 (rw e at h) in omega arith
 
+pub ruleset searching = (rules, line_found, line_passed, lines_over)
+
 pub ruleset walking = (rules, node_small, mod-lt, spoilt_blocked, spoilt_open)
 
 pub ruleset walks =

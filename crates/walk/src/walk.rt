@@ -9,7 +9,7 @@ ghost use Rattle.walk.specs.code.Arenas.{choice_for, has_fallen, outcome_on, las
 ghost use Rattle.walk.specs.code.Arenas.{spoilt_at, all_spoilt_at, spoilt, all_spoilt};
 
 use crate::arena::{Arena, Fallen};
-use crate::sized::SizedArena;
+use crate::sized::{SizedArena, SizedNode};
 use sheet::form::byte;
 use sheet::grid::target;
 use sheet::kinds::safe_at;
@@ -91,26 +91,18 @@ impl SizedArena<'_> {
 
     // The last of a choice's lines that spoils it, looked for from the end: it is "nearly always a late line of its position's yard
     // moves" (W-203).
+    #[inline(always)]
+    #[tactic(auto, using(crate::proofs::WalkLaws::searching))]
     fn last_spoiling(&self, fallen: &Fallen, x: Choice) -> Option<usize>
         requires { (x.rest < self.now.arena.now.level.words) × (x.end < most_power) }
         ensures { result ≡ last_below self.now.arena.now fallen.now x x.end }
     {
-        (x.first..x.end)
-            .rev()
-            .find(|&line| self.spoils(fallen, x, line))
-    }
-
-    // Is action c spoilt at node k, which exists?
-    #[tactic(auto, using(crate::proofs::WalkLaws::walking))]
-    fn spoilt_at(&self, fallen: &Fallen, k: usize, c: usize) -> bool
-        requires { (k < self.now.arena.now.level.nodes) × (c < self.now.arena.now.level.actions) }
-        ensures { result ≡ spoilt_at self.now.arena.now fallen.now k c }
-    {
-        let level = self.arena.level;
-        let Some(x) = self.choose(k / level.words, k % level.words, c) else {
-            return true;
-        };
-        self.last_spoiling(fallen, x).is_some()
+        for line in (x.first..x.end).rev() {
+            if self.spoils(fallen, x, line) {
+                return Some(line);
+            }
+        }
+        None
     }
 
     // Is every action spoilt at node k, which exists? The inner loop goes through an action's lines from the last to the first and
@@ -139,6 +131,31 @@ impl SizedArena<'_> {
     }
 }
 
+impl SizedNode<'_> {
+    // Is action c, which exists, spoilt here? Inlined for speed, as what it calls is: as a call, posting a notice that closes little takes
+    // 1.7 times as long, and solving at lags 0 and 1 up to twice.
+    #[inline(always)]
+    #[tactic(auto, using(crate::proofs::WalkLaws::walking))]
+    fn spoilt_at(&self, fallen: &Fallen, c: usize) -> bool
+        requires { c < self.now.sized.now.arena.now.level.actions }
+        ensures { result ≡ spoilt_at self.now.sized.now.arena.now fallen.now self.now.k c }
+    {
+        let Some(x) = self.sized.choose(self.q, self.w, c) else {
+            return true;
+        };
+        self.sized.last_spoiling(fallen, x).is_some()
+    }
+
+    // The same of any action: where there is none, no.
+    #[inline(always)]
+    #[tactic(auto, unfolding(theory::specs::Fold::both), using(crate::proofs::NodeLaws::guarded))]
+    pub fn spoilt(&self, fallen: &Fallen, c: usize) -> bool
+        ensures { result ≡ spoilt self.now.sized.now.arena.now fallen.now self.now.k c }
+    {
+        c < self.sized.arena.level.actions && self.spoilt_at(fallen, c)
+    }
+}
+
 impl Arena<'_> {
     // Is action c spoilt at node k? Where there is no such node or action, no. Inlined for speed: as a call it takes 1.3 times as long
     // where many lines are looked at.
@@ -149,7 +166,7 @@ impl Arena<'_> {
     {
         self.level.is_node(self.positions.len(), k)
             && c < self.level.actions
-            && SizedArena { arena: self }.spoilt_at(fallen, k, c)
+            && SizedArena { arena: self }.apart(k).spoilt_at(fallen, c)
     }
 
     // Is every action spoilt at node k? A node that does not exist: no. The test is `spoilt`'s, and one function of both no plainer.

@@ -1,13 +1,26 @@
 -- What inner functions of the reading answer. Assumes nothing.
-use Rattle.std.specs.Prelude.{ℕ, ◌≡◌, Bool, true, false, cond, List, get_or}
+use Rattle.std.specs.Prelude.{ℕ, ◌-◌, ◌≡◌, Bool, true, false, cond, List, [], eqb, ltb, get_or}
+use Rattle.theory.specs.Fold.{both, either}
 use Rattle.theory.specs.Answer.{Answer, accepted, check}
 use Rattle.sheet.specs.Limits.{width}
-use Rattle.sheet.specs.Kinds.{controller_at}
+use Rattle.sheet.specs.Kinds.{controller_at, environment_at}
 use Rattle.sheet.specs.Form.{contents_ok}
-use Rattle.reader.specs.Checks.{positions_ok, header_ok, targets_ok, moves_ok, gates_ok, all_leave}
+use Rattle.reader.specs.Checks.{key_at, positions_ok, header_ok, targets_ok, moves_ok, gates_ok, all_leave}
 use Rattle.sheet.specs.Bodies.{letters_of, header_body, positions_body, targets_body, moves_body, action_count}
 use Rattle.reader.specs.Reading.{layout_of}
 use Rattle.reader.specs.declared.reading.Layout.{Layout}
+
+-- checks 4 and 5 over lines as arrays: line k has a larger key than the line before it
+abbrev pub follows : List (List ℕ) → ℕ → Bool
+follows xs k = either (eqb k 0) (ltb (key_at (get_or xs (k - 1) []) 0) (key_at (get_or xs k []) 0))
+
+-- from the controller's side to the environment's, by an action
+abbrev pub target_line : List ℕ → ℕ → List ℕ → Bool
+target_line p a x = both (controller_at p (get_or x 0 0)) (both (ltb (get_or x 1 0) a) (environment_at p (get_or x 2 0)))
+
+-- from the environment's side to the controller's
+abbrev pub move_line : List ℕ → List ℕ → Bool
+move_line p x = both (environment_at p (get_or x 0 0)) (controller_at p (get_or x 1 0))
 
 -- `leaves_at`, from the positions that the C lines and the U lines begin with
 unfoldable pub leaves_by : List ℕ → List Bool → List Bool → ℕ → Bool

@@ -4,4 +4,4 @@ use Rattle.text.specs.Page.{Puts}
 use Rattle.text.proofs.buffer.Page.put_text.Given as goal
 
 abbrev pub invariant-loop-byte : goal.invariant-loop-byte
-invariant-loop-byte l = Puts l.initial.self (take l.byte-index l.text) l.self
+invariant-loop-byte l = Puts l.initial.page (take l.byte-index l.text) l.page
