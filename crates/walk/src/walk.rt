@@ -1,7 +1,7 @@
 // Which actions are spoilt at a node, and whether all are. Nothing is asked of what the arrays hold.
-ghost use Rattle.std.specs.Prelude.{◌≡◌, ◌≤◌, ◌<◌, get_or, IfSome};
+ghost use Rattle.std.specs.Prelude.{◌≡◌, ◌*◌, ◌/◌, ◌%◌, ◌≤◌, ◌<◌, get_or, IfSome};
 ghost use Rattle.theory.specs.Rounds.{bad};
-ghost use Rattle.sheet.specs.Limits.{most_positions};
+ghost use Rattle.sheet.specs.Limits.{most_positions, most_actions};
 ghost use Rattle.sheet.specs.code.Steps.{most_power};
 ghost use Rattle.sheet.specs.code.Arrays.{index_entries};
 ghost use Rattle.walk.specs.code.Walks.{moving_from};
@@ -46,6 +46,21 @@ impl Arena<'_> {
     }
 }
 
+// A joined word's oldest action and what is pending after it. In 32 bits, of which a level's numbers need no more: 64 are divided by a
+// longer way. Where no word is pending nothing is divided.
+#[inline(always)]
+fn split(joined: usize, words: usize) -> (usize, usize)
+    requires { (joined < most_power * most_actions) × (1 ≤ words) × (words ≤ most_power) }
+    ensures { (result.0 ≡ joined / words) × (result.1 ≡ joined % words) }
+{
+    if words == 1 {
+        return (joined, 0);
+    }
+    let divisor = words as u32;
+    let word = joined as u32;
+    ((word / divisor) as usize, (word % divisor) as usize)
+}
+
 impl SizedArena<'_> {
     // Action c joined to the pending word w, at position q; none where it is spoilt before the environment moves. By parity the oldest
     // action is still to be played, or was played first.
@@ -57,8 +72,7 @@ impl SizedArena<'_> {
     {
         let arena = self.arena;
         let joined = w * arena.level.actions + c;
-        let action = joined / arena.level.words;
-        let rest = joined % arena.level.words;
+        let (action, rest) = split(joined, arena.level.words);
         if arena.level.odd {
             return Some(arena.moves_from(action, rest, q));
         }
