@@ -58,8 +58,8 @@
  * Memory. The library has no static data and needs no initialisation: a function reads and writes only what is lent to it and its stack.
  * So it is reentrant, and threads may call at the same time if none writes to what another was lent. (One sheet may be lent to all, a
  * cabin's state to one at a time.) A pointer is not null and valid for the length that goes with it, and what is lent for writing
- * overlaps nothing else that is lent. Measured on x86-64 over sheets with up to 16,384 pairs, lq_post goes 107,300 bytes deep into the
- * stack, lq_make 96,070, lq_solve 95,320, lq_judge 78,000, lq_read 23,010 and each other function fewer than 600: a stack of 128 KiB is
+ * overlaps nothing else that is lent. Measured on x86-64 over sheets with up to 16,384 pairs, lq_post goes 111,910 bytes deep into the
+ * stack, lq_make 96,070, lq_solve 95,320, lq_judge 77,920, lq_read 23,010 and each other function fewer than 600: a stack of 128 KiB is
  * enough for any, and one of 4 KiB for the cabin's functions.
  */
 #ifndef LOQUATQUOITS_H
