@@ -45,7 +45,7 @@ fn hold(grid: &Grid, actions: usize) -> Grid
     held
 }
 
-// The grid of a C body, completed where gates hold.
+// The grid of a C body, completed where gates hold. Each branch makes its own: one grid for both is copied for plain gates too.
 #[tactic(auto, unfolding(crate::specs::code::Held::held_grid))]
 pub fn grid_for(c: &[u8], actions: usize, holding: bool) -> Grid
     ensures { result ≡ held_grid holding actions c.now }

@@ -6,7 +6,7 @@ use mathlib.Core.List.{List, []}
 use native.Mathlib.Omega.{arith}
 use native.Mathlib.Nat.{mul-le-mul_left, le_of_lt, mul-le-mul_right, zero-mul}
 use native.Mathlib.Numerals.{add-one}
-use lib.Dec.{leb, ltb}
+use lib.Dec.{leb}
 use lib.ListN.{length, get_or, set, replicate}
 use borrow.Author.Tests.{le-leb, lt-leb, lt-ltb, eq-eqb, ne_eqb, leb-false}
 use Rattle.theory.specs.Fold.{both, either, all_below, any_below, tabulate}
@@ -18,10 +18,10 @@ use Rattle.sheet.specs.declared.kinds.Kind.{Kind}
 use Rattle.sheet.proofs.ChunkLaws.{chunk_entry}
 use Rattle.std.specs.Simd.{first_chunks}
 use Rattle.std.proofs.lemmas.List.{get_or_default}
-use Rattle.sheet.specs.Kinds.{controller_at, environment_at}
+use Rattle.sheet.specs.Kinds.{controller_at}
 use Rattle.reader.specs.Checks.{key_at, rises_at, target_ok, targets_ok, move_ok, moves_ok, begins_at, has_line, leaves_at, all_leave, positions_ok, size_ok}
 use Rattle.sheet.specs.Size.{nodes_of}
-use Rattle.reader.specs.code.Steps.{follows, target_line, move_line, leaves_by}
+use Rattle.reader.specs.code.Steps.{follows, target_sides, target_line, move_sides, move_line, leaves_by}
 use Rattle.sheet.specs.code.Steps.{power_to, most_power}
 use Rattle.sheet.specs.Limits.{most_positions, most_moves, most_nodes}
 use mathlib.Core.Logic.{⊎_elim}
@@ -99,13 +99,9 @@ both_within false b c = refl
 -- check 4
 
 module _ (p : List ℕ) (a : ℕ) where
-  -- from the controller's side to the environment's, by an action
-  abbrev pub target_sides : ℕ → ℕ → ℕ → Bool
-  target_sides from action to = both (controller_at p from) (both (ltb action a) (environment_at p to))
-
   module _ (c : List ℕ) where
     abbrev pub target_sided : ℕ → Bool
-    target_sided k = target_sides (get_or c (3 * k) 0) (get_or c (3 * k + 1) 0) (get_or c (3 * k + 2) 0)
+    target_sided k = target_sides p a (get_or c (3 * k) 0) (get_or c (3 * k + 1) 0) (get_or c (3 * k + 2) 0)
 
     pub target_same : (xs : List (List ℕ)) → xs ≡ first_chunks 3 (length c / 3) c → length xs ≡ length c / 3 → (k : ℕ) → k < length xs
         → target_line p a (get_or xs k []) ≡ target_sided k
@@ -124,12 +120,9 @@ module _ (p : List ℕ) (a : ℕ) where
 -- check 5
 
 module _ (p : List ℕ) where
-  abbrev pub move_sides : ℕ → ℕ → Bool
-  move_sides from to = both (environment_at p from) (controller_at p to)
-
   module _ (u : List ℕ) where
     abbrev pub move_sided : ℕ → Bool
-    move_sided k = move_sides (get_or u (2 * k) 0) (get_or u (2 * k + 1) 0)
+    move_sided k = move_sides p (get_or u (2 * k) 0) (get_or u (2 * k + 1) 0)
 
     pub move_same : (xs : List (List ℕ)) → xs ≡ first_chunks 2 (length u / 2) u → length xs ≡ length u / 2 → (k : ℕ) → k < length xs
         → move_line p (get_or xs k []) ≡ move_sided k

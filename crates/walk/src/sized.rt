@@ -25,7 +25,7 @@ pub struct SizedNode<'a> {
 }
 
 impl SizedArena<'_> {
-    // Node k, which exists, taken apart.
+    // Node k, which exists, taken apart. Inlined, here and in `node`, so that what is done with the node sees its numbers.
     #[inline(always)]
     pub(crate) fn apart(&self, k: usize) -> SizedNode<'_>
         requires { k < self.now.arena.now.level.nodes }

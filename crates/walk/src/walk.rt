@@ -104,7 +104,7 @@ impl SizedArena<'_> {
     }
 
     // The last of a choice's lines that spoils it, looked for from the end: it is "nearly always a late line of its position's yard
-    // moves" (W-203).
+    // moves" (W-203). Not `find`, whose closure is not compiled into the caller.
     #[inline(always)]
     #[tactic(auto, using(crate::proofs::WalkLaws::searching))]
     fn last_spoiling(&self, fallen: &Fallen, x: Choice) -> Option<usize>
@@ -146,7 +146,7 @@ impl SizedArena<'_> {
 }
 
 impl SizedNode<'_> {
-    // Is action c, which exists, spoilt here? Inlined for speed, as what it calls is: as a call, posting a notice that closes little takes
+    // Is action c, which exists, spoilt here? Inlined for speed, as `last_spoiling` is: as a call, posting a notice that closes little takes
     // 1.7 times as long, and solving at lags 0 and 1 up to twice.
     #[inline(always)]
     #[tactic(auto, using(crate::proofs::WalkLaws::walking))]

@@ -15,12 +15,18 @@ abbrev pub follows : List (List ℕ) → ℕ → Bool
 follows xs k = either (eqb k 0) (ltb (key_at (get_or xs (k - 1) []) 0) (key_at (get_or xs k []) 0))
 
 -- from the controller's side to the environment's, by an action
+abbrev pub target_sides : List ℕ → ℕ → ℕ → ℕ → ℕ → Bool
+target_sides p a from action to = both (controller_at p from) (both (ltb action a) (environment_at p to))
+
 abbrev pub target_line : List ℕ → ℕ → List ℕ → Bool
-target_line p a x = both (controller_at p (get_or x 0 0)) (both (ltb (get_or x 1 0) a) (environment_at p (get_or x 2 0)))
+target_line p a x = target_sides p a (get_or x 0 0) (get_or x 1 0) (get_or x 2 0)
 
 -- from the environment's side to the controller's
+abbrev pub move_sides : List ℕ → ℕ → ℕ → Bool
+move_sides p from to = both (environment_at p from) (controller_at p to)
+
 abbrev pub move_line : List ℕ → List ℕ → Bool
-move_line p x = both (environment_at p (get_or x 0 0)) (controller_at p (get_or x 1 0))
+move_line p x = move_sides p (get_or x 0 0) (get_or x 1 0)
 
 -- `leaves_at`, from the positions that the C lines and the U lines begin with
 unfoldable pub leaves_by : List ℕ → List Bool → List Bool → ℕ → Bool
